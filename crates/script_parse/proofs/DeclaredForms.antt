@@ -7,12 +7,16 @@ use Rattle.pct_ask.specs.Tokens.{Token, Word, Symbol}
 use Rattle.pct_ask.specs.declared.names.NameKind.{NameKind}
 use Rattle.pct_ask.specs.declared.names.NameKind.TheVariants as kinds
 use Rattle.script_tree.specs.Trees.{Statement, Statements, closed_at}
+use Rattle.script_tree.specs.declared.verb.OnVerb.TheVariants as on_verbs
+use Rattle.script_tree.specs.declared.verb.IntoVerb.TheVariants as into_verbs
 use Rattle.script_tree.specs.Forms as forms
 use Rattle.pct_ask.specs.Words.{register_word}
-use Rattle.script_tree.specs.Forms.{OnVerb, IntoVerb, TokenForm, MeantForm, Thread, On, Into, Write}
-use Rattle.script_tree.specs.Forms.{Add, Cas, Wait, Yield, Assert, Set, If, While, End, Else}
-use Rattle.script_tree.specs.Forms.{on_word, into_word, kind_word, has_value, is_plain, value_in}
-use Rattle.script_tree.specs.Forms.{tokens_of_form, IsFormOf, Means}
+use Rattle.script_tree.specs.declared.verb.OnVerb.{OnVerb}
+use Rattle.script_tree.specs.declared.verb.IntoVerb.{IntoVerb}
+use Rattle.script_tree.specs.Forms.{TokenForm, MeantForm, Thread, On, Into, Write, Add, Cas, Wait}
+use Rattle.script_tree.specs.Forms.{Yield, Assert, Set, If, While, End, Else, on_word, into_word}
+use Rattle.script_tree.specs.Forms.{kind_word, has_value, is_plain, value_in, tokens_of_form}
+use Rattle.script_tree.specs.Forms.{IsFormOf, Means}
 use Rattle.script_tree.specs.Lines.{declared_value, values_of, just_thread}
 use Rattle.script_parse.specs.Part.{Open, Part}
 use Rattle.script_parse.specs.Part as parts
@@ -126,11 +130,11 @@ quiet_adds part next lines word rest k d h = record {
 }
 
 pub on_none : (verb : OnVerb) → kind_in (on_word verb) ≡ None
-on_none forms.Lock = refl
+on_none on_verbs.Lock = refl
 on_none verb = refl
 
 pub into_none : (verb : IntoVerb) → kind_in (into_word verb) ≡ None
-into_none forms.Read = refl
+into_none into_verbs.Read = refl
 into_none verb = refl
 
 plain_adds : (part : Part) (lines : List (List Token)) (kind : NameKind) (name : List ℕ)

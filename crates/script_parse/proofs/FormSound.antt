@@ -3,7 +3,7 @@ use Rattle.std.proofs.Common.{◌≡◌, ℕ, suc, ◌+◌, inl, inr, true, cond
 use Rattle.std.proofs.Common.{◌∷◌, ◌++◌, Option, Some, None, refl, sym, ap, ◌∙◌, take, drop}
 use Rattle.std.proofs.Common.{drop-cons, add-one, subst}
 use Rattle.std.specs.Prelude.{nat_le, ◌&&◌, codes}
-use Rattle.std.specs.List.{position}
+use Rattle.std.specs.List.{position, find}
 use Rattle.std.specs.Option.{option_map, option_and_then}
 use Rattle.std.specs.Str.{bytes_eq}
 use Rattle.std.proofs.lemmas.Bool.{leb-true, and_parts}
@@ -16,15 +16,16 @@ use Rattle.pct_ask.specs.declared.names.NameKind.TheVariants as kinds
 use Rattle.script_tree.specs.Trees.{Expression}
 use Rattle.script_tree.specs.Expressions.{IsExpression}
 use Rattle.pct_ask.specs.Words.{register_word}
-use Rattle.script_tree.specs.Forms.{OnVerb, Lock, Unlock, Signal, Broadcast, Down, Up, Join, Start}
-use Rattle.script_tree.specs.Forms.{RdLock, WrLock, RwUnlock, IntoVerb, Read, TryLock, TryDown}
-use Rattle.script_tree.specs.Forms.{Arrive, TryRdLock, TryWrLock, TokenForm, MeantForm, Plain}
-use Rattle.script_tree.specs.Forms.{Valued, Thread, On, Into, Write, Add, Cas, Wait, Yield, Assert}
-use Rattle.script_tree.specs.Forms.{Set, If, While, End, Else, on_word, into_word, kind_word}
+use Rattle.script_tree.specs.declared.verb.TheConstants.{ON_VERBS, INTO_VERBS}
+use Rattle.script_tree.specs.declared.verb.OnVerb.{OnVerb}
+use Rattle.script_tree.specs.declared.verb.IntoVerb.{IntoVerb}
+use Rattle.script_tree.specs.Forms.{TokenForm, MeantForm, Plain, Valued, Thread, On, Into, Write}
+use Rattle.script_tree.specs.Forms.{Add, Cas, Wait, Yield, Assert, Set, If, While, End, Else}
+use Rattle.script_tree.specs.Forms.{on_word, into_word, kind_word, on_verb_in, into_verb_in}
 use Rattle.script_tree.specs.Forms.{on_since, into_since, is_plain, has_value, kind_since}
 use Rattle.script_tree.specs.Forms.{tokens_of_form, Means, IsFormOf, IsForm}
 use Rattle.pct_ask.specs.Words.{register_in}
-use Rattle.script_parse.specs.Words.{on_verb_in, into_verb_in, kind_in}
+use Rattle.script_parse.specs.Words.{kind_in}
 use Rattle.script_parse.specs.Machine.{expression_in}
 use Rattle.script_parse.specs.Saying.{lone_word, is_comma, parts_at, plain_form, lone_form}
 use Rattle.script_parse.specs.Saying.{value_parts, valued_form, declared_form, on_form, into_object}
@@ -57,29 +58,13 @@ made_says make tokens meant e =
     let m = mapped_some make (expression_in tokens) meant e in
     (m.0, expression_is_spelled tokens m.0 m.1, m.2)
 
-on_word_says : (word : List ℕ) (verb : OnVerb) → on_verb_in word ≡ Some verb → word ≡ on_word verb
-on_word_says word verb e =
-    one_choice on_word word Lock _ verb e (λ e.
-    one_choice on_word word Unlock _ verb e (λ e.
-    one_choice on_word word Signal _ verb e (λ e.
-    one_choice on_word word Broadcast _ verb e (λ e.
-    one_choice on_word word Down _ verb e (λ e.
-    one_choice on_word word Up _ verb e (λ e.
-    one_choice on_word word Join _ verb e (λ e.
-    one_choice on_word word Start _ verb e (λ e.
-    one_choice on_word word RdLock _ verb e (λ e.
-    one_choice on_word word WrLock _ verb e (λ e.
-    one_choice on_word word RwUnlock _ verb e (λ e. absurd cc)))))))))))
-
-into_word_says : (word : List ℕ) (verb : IntoVerb) → into_verb_in word ≡ Some verb
-    → word ≡ into_word verb
-into_word_says word verb e =
-    one_choice into_word word Read _ verb e (λ e.
-    one_choice into_word word TryLock _ verb e (λ e.
-    one_choice into_word word TryDown _ verb e (λ e.
-    one_choice into_word word Arrive _ verb e (λ e.
-    one_choice into_word word TryRdLock _ verb e (λ e.
-    one_choice into_word word TryWrLock _ verb e (λ e. absurd cc))))))
+-- a word by which one of these is found
+found_says : {A : Type 0} (text : A → List ℕ) (word : List ℕ) (list : List A) (a : A)
+    → find (λ b. bytes_eq word (text b)) list ≡ Some a → word ≡ text a
+found_says text word [] a e = absurd cc
+found_says text word (b ∷ others) a e =
+    one_choice text word b (find (λ b. bytes_eq word (text b)) others) a e
+    (λ e. found_says text word others a e)
 
 kind_word_says : (word : List ℕ) (kind : NameKind) → kind_in word ≡ Some kind
     → word ≡ kind_word kind
@@ -369,7 +354,7 @@ by_on_says : (found : Option OnVerb) (version : ℕ) (word : List ℕ) (tokens :
     → HasCut version (Word word ∷ tokens) meant
 by_on_says None version word tokens meant others f e there = there e
 by_on_says (Some verb) version word tokens meant others f e there =
-    on_says version word verb tokens meant (on_word_says word verb f) e
+    on_says version word verb tokens meant (found_says on_word word ON_VERBS.now verb f) e
 
 by_into_says : (found : Option IntoVerb) (version : ℕ) (word : List ℕ) (tokens : List Token)
     (meant : MeantForm) (others : Option MeantForm) → into_verb_in word ≡ found
@@ -378,7 +363,7 @@ by_into_says : (found : Option IntoVerb) (version : ℕ) (word : List ℕ) (toke
     → HasCut version (Word word ∷ tokens) meant
 by_into_says None version word tokens meant others f e there = there e
 by_into_says (Some verb) version word tokens meant others f e there =
-    into_says version word verb tokens meant (into_word_says word verb f) e
+    into_says version word verb tokens meant (found_says into_word word INTO_VERBS.now verb f) e
 
 by_kind_says : (found : Option NameKind) (version : ℕ) (word : List ℕ) (tokens : List Token)
     (meant : MeantForm) (others : Option MeantForm) → kind_in word ≡ found

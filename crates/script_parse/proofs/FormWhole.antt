@@ -17,12 +17,16 @@ use Rattle.script_tree.specs.declared.expr.Op.TheVariants as ops
 use Rattle.script_tree.specs.Trees.{Expression}
 use Rattle.script_tree.specs.Expressions.{IsSpelled, number, register, enclosed, minus, not, two}
 use Rattle.script_tree.specs.Expressions.{stronger, signs_of}
-use Rattle.script_tree.specs.Forms.{OnVerb, Lock, IntoVerb, Read, TokenForm, MeantForm, Plain}
-use Rattle.script_tree.specs.Forms.{Valued, Thread, On, Into, Write, Add, Cas, Wait, Yield, Assert}
-use Rattle.script_tree.specs.Forms.{Set, If, While, End, Else, on_word, into_word, kind_word}
-use Rattle.script_tree.specs.Forms.{on_since, into_since, is_plain, kind_since, tokens_of_form}
-use Rattle.script_tree.specs.Forms.{IsForm, IsFormOf, Means}
-use Rattle.script_parse.specs.Words.{on_verb_in, into_verb_in, kind_in}
+use Rattle.script_tree.specs.declared.verb.OnVerb.{OnVerb}
+use Rattle.script_tree.specs.declared.verb.OnVerb.TheVariants.{Lock}
+use Rattle.script_tree.specs.declared.verb.IntoVerb.{IntoVerb}
+use Rattle.script_tree.specs.declared.verb.IntoVerb.TheVariants.{Read}
+use Rattle.script_tree.specs.Forms.{TokenForm, MeantForm, Plain, Valued, Thread, On, Into, Write}
+use Rattle.script_tree.specs.Forms.{Add, Cas, Wait, Yield, Assert, Set, If, While, End, Else}
+use Rattle.script_tree.specs.Forms.{on_word, into_word, kind_word, on_since, into_since, is_plain}
+use Rattle.script_tree.specs.Forms.{kind_since, tokens_of_form, IsForm, IsFormOf, Means, on_verb_in}
+use Rattle.script_tree.specs.Forms.{into_verb_in}
+use Rattle.script_parse.specs.Words.{kind_in}
 use Rattle.script_parse.specs.Saying.{is_comma, parts_at, lone_form, form_in}
 use Rattle.std.specs.List.{prefix_len}
 use Rattle.std.proofs.Math.Seq.{take-append_seam, drop-append-add}

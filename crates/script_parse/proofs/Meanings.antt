@@ -3,9 +3,10 @@ use Rattle.std.proofs.Common.{ℕ, List, sym, subst}
 use Rattle.pct_ask.specs.Tokens.{Token}
 use Rattle.pct_ask.specs.declared.names.NameKind.{NameKind}
 use Rattle.script_tree.specs.Trees.{Expression}
-use Rattle.script_tree.specs.Forms.{OnVerb, IntoVerb, TokenForm, MeantForm, Plain, Valued, Thread}
-use Rattle.script_tree.specs.Forms.{On, Into, Write, Add, Cas, Wait, Yield, Assert, Set, If, While}
-use Rattle.script_tree.specs.Forms.{End, Else, Means}
+use Rattle.script_tree.specs.declared.verb.OnVerb.{OnVerb}
+use Rattle.script_tree.specs.declared.verb.IntoVerb.{IntoVerb}
+use Rattle.script_tree.specs.Forms.{TokenForm, MeantForm, Plain, Valued, Thread, On, Into, Write}
+use Rattle.script_tree.specs.Forms.{Add, Cas, Wait, Yield, Assert, Set, If, While, End, Else, Means}
 
 -- what is shown of each form with its meaning
 pub record ForEach (P : TokenForm → MeantForm → Type 0) : Type 1 where

@@ -12,6 +12,10 @@ use Rattle.script_tree.specs.Trees.{Expression, Statement, Statements, Closed, T
 use Rattle.script_tree.specs.Trees.{end_line, closed_at}
 use Rattle.script_tree.specs.Trees as trees
 use Rattle.script_tree.specs.Forms.{MeantForm}
+use Rattle.script_tree.specs.declared.verb.OnVerb.TheVariants as on_verbs
+use Rattle.script_tree.specs.declared.verb.IntoVerb.TheVariants as into_verbs
+use Rattle.script_tree.specs.declared.verb.OnVerb.{OnVerb}
+use Rattle.script_tree.specs.declared.verb.IntoVerb.{IntoVerb}
 use Rattle.script_tree.specs.Forms as forms
 use Rattle.script_tree.specs.Fitting.{line_fits, reg_fits, place_fits, expression_fits}
 use Rattle.script_tree.specs.Fitting.{statement_fits, statements_fit}
@@ -82,7 +86,7 @@ module _ (find : Finder) (part : Part) (names : NameLists) (version : ℕ)
     subst (λ (p : Part). Runs find p rest last) (sym e) r,
   )
 
-  on_line : (verb : forms.OnVerb) (line place : ℕ) (opening : Opening) (done : List Statement)
+  on_line : (verb : OnVerb) (line place : ℕ) (opening : Opening) (done : List Statement)
       (outer : List Open) (rest : List Line) (last : Part)
       → place_fits (list_of (forms.on_kind verb) names) place ≡ true
       → Runs find (at (inside opening (done ++ on_statement verb line place ∷ []) outer)) rest last
@@ -96,7 +100,7 @@ module _ (find : Finder) (part : Part) (names : NameLists) (version : ℕ)
       (on_statement verb line place) refl (known_at (forms.on_kind verb) place p) refl refl refl
       (rw (found (forms.on_kind verb) place p) refl) r
 
-  into_line : (verb : forms.IntoVerb) (line reg place : ℕ) (opening : Opening)
+  into_line : (verb : IntoVerb) (line reg place : ℕ) (opening : Opening)
       (done : List Statement) (outer : List Open) (rest : List Line) (last : Part)
       → place_fits (list_of (forms.into_kind verb) names) place ≡ true
       → Runs find (at (inside opening (done ++ into_statement verb line reg place ∷ []) outer)) rest
@@ -174,7 +178,7 @@ module _ (find : Finder) (part : Part) (names : NameLists) (version : ℕ)
         → Runs find (at (inside opening (done ++ s ∷ []) outer)) rest last
         → Runs find (at (inside opening done outer)) (statement_lines names s ++ rest) last
     statement_runs (trees.Read line reg var) opening done outer rest last room e f r =
-        into_line forms.Read line reg var opening done outer rest last
+        into_line into_verbs.Read line reg var opening done outer rest last
         (and_parts (line_fits line && reg_fits reg) (place_fits names.vars var) f).1 r
     statement_runs (trees.Write line var value) opening done outer rest last room e f r =
         let p = (and_parts (line_fits line) (place_fits names.vars var)
@@ -200,13 +204,13 @@ module _ (find : Finder) (part : Part) (names : NameLists) (version : ℕ)
         (trees.Cas line reg var old new) refl (known_at kinds.Var var p) refl refl refl
         (rw (found kinds.Var var p) refl) r
     statement_runs (trees.Lock line mutex) opening done outer rest last room e f r =
-        on_line forms.Lock line mutex opening done outer rest last
+        on_line on_verbs.Lock line mutex opening done outer rest last
         (and_parts (line_fits line) (place_fits names.mutexes mutex) f).1 r
     statement_runs (trees.TryLock line reg mutex) opening done outer rest last room e f r =
-        into_line forms.TryLock line reg mutex opening done outer rest last
+        into_line into_verbs.TryLock line reg mutex opening done outer rest last
         (and_parts (line_fits line && reg_fits reg) (place_fits names.mutexes mutex) f).1 r
     statement_runs (trees.Unlock line mutex) opening done outer rest last room e f r =
-        on_line forms.Unlock line mutex opening done outer rest last
+        on_line on_verbs.Unlock line mutex opening done outer rest last
         (and_parts (line_fits line) (place_fits names.mutexes mutex) f).1 r
     statement_runs (trees.Wait line waiting mutex) opening done outer rest last room e f r =
         let a = and_parts (line_fits line && place_fits names.conds waiting)
@@ -220,25 +224,25 @@ module _ (find : Finder) (part : Part) (names : NameLists) (version : ℕ)
         (rw (found kinds.Cond waiting b.1, found kinds.Mutex mutex a.1) refl) refl refl refl
         (rw (found kinds.Cond waiting b.1, found kinds.Mutex mutex a.1) refl) r
     statement_runs (trees.Signal line waiting) opening done outer rest last room e f r =
-        on_line forms.Signal line waiting opening done outer rest last
+        on_line on_verbs.Signal line waiting opening done outer rest last
         (and_parts (line_fits line) (place_fits names.conds waiting) f).1 r
     statement_runs (trees.Broadcast line waiting) opening done outer rest last room e f r =
-        on_line forms.Broadcast line waiting opening done outer rest last
+        on_line on_verbs.Broadcast line waiting opening done outer rest last
         (and_parts (line_fits line) (place_fits names.conds waiting) f).1 r
     statement_runs (trees.Down line sem) opening done outer rest last room e f r =
-        on_line forms.Down line sem opening done outer rest last
+        on_line on_verbs.Down line sem opening done outer rest last
         (and_parts (line_fits line) (place_fits names.sems sem) f).1 r
     statement_runs (trees.TryDown line reg sem) opening done outer rest last room e f r =
-        into_line forms.TryDown line reg sem opening done outer rest last
+        into_line into_verbs.TryDown line reg sem opening done outer rest last
         (and_parts (line_fits line && reg_fits reg) (place_fits names.sems sem) f).1 r
     statement_runs (trees.Up line sem) opening done outer rest last room e f r =
-        on_line forms.Up line sem opening done outer rest last
+        on_line on_verbs.Up line sem opening done outer rest last
         (and_parts (line_fits line) (place_fits names.sems sem) f).1 r
     statement_runs (trees.Arrive line reg barrier) opening done outer rest last room e f r =
-        into_line forms.Arrive line reg barrier opening done outer rest last
+        into_line into_verbs.Arrive line reg barrier opening done outer rest last
         (and_parts (line_fits line && reg_fits reg) (place_fits names.barriers barrier) f).1 r
     statement_runs (trees.Join line thread) opening done outer rest last room e f r =
-        on_line forms.Join line thread opening done outer rest last
+        on_line on_verbs.Join line thread opening done outer rest last
         (and_parts (line_fits line) (place_fits names.threads thread) f).1 r
     statement_runs (trees.Yield line) opening done outer rest last room e f r =
         simple opening done outer (line, forms.Yield) rest last (trees.Yield line) refl refl refl
@@ -250,24 +254,24 @@ module _ (find : Finder) (part : Part) (names : NameLists) (version : ℕ)
         simple opening done outer (line, forms.Set reg value) rest last (trees.Set line reg value)
         refl refl refl refl refl refl r
     statement_runs (trees.Start line thread) opening done outer rest last room e f r =
-        on_line forms.Start line thread opening done outer rest last
+        on_line on_verbs.Start line thread opening done outer rest last
         (and_parts (line_fits line && nat_le 2 version) (place_fits names.threads thread) f).1 r
     statement_runs (trees.RdLock line rwlock) opening done outer rest last room e f r =
-        on_line forms.RdLock line rwlock opening done outer rest last
+        on_line on_verbs.RdLock line rwlock opening done outer rest last
         (and_parts (line_fits line && nat_le 3 version) (place_fits names.rwlocks rwlock) f).1 r
     statement_runs (trees.WrLock line rwlock) opening done outer rest last room e f r =
-        on_line forms.WrLock line rwlock opening done outer rest last
+        on_line on_verbs.WrLock line rwlock opening done outer rest last
         (and_parts (line_fits line && nat_le 3 version) (place_fits names.rwlocks rwlock) f).1 r
     statement_runs (trees.TryRdLock line reg rwlock) opening done outer rest last room e f r =
-        into_line forms.TryRdLock line reg rwlock opening done outer rest last
+        into_line into_verbs.TryRdLock line reg rwlock opening done outer rest last
         (and_parts (line_fits line && nat_le 3 version && reg_fits reg)
         (place_fits names.rwlocks rwlock) f).1 r
     statement_runs (trees.TryWrLock line reg rwlock) opening done outer rest last room e f r =
-        into_line forms.TryWrLock line reg rwlock opening done outer rest last
+        into_line into_verbs.TryWrLock line reg rwlock opening done outer rest last
         (and_parts (line_fits line && nat_le 3 version && reg_fits reg)
         (place_fits names.rwlocks rwlock) f).1 r
     statement_runs (trees.RwUnlock line rwlock) opening done outer rest last room e f r =
-        on_line forms.RwUnlock line rwlock opening done outer rest last
+        on_line on_verbs.RwUnlock line rwlock opening done outer rest last
         (and_parts (line_fits line && nat_le 3 version) (place_fits names.rwlocks rwlock) f).1 r
     statement_runs (trees.If line test body) opening done outer rest last room e f r =
         let a = and_parts (line_fits line && expression_fits test && nat_lt 0 room)

@@ -14,9 +14,12 @@ use Rattle.pct_ask.specs.declared.names.NameKind.{NameKind}
 use Rattle.pct_ask.specs.declared.names.NameKind.TheVariants as kinds
 use Rattle.script_tree.specs.Trees.{Statement}
 use Rattle.script_tree.specs.Trees as trees
+use Rattle.script_tree.specs.declared.verb.OnVerb.TheVariants as on_verbs
+use Rattle.script_tree.specs.declared.verb.IntoVerb.TheVariants as into_verbs
 use Rattle.script_tree.specs.Forms as forms
-use Rattle.script_tree.specs.Forms.{OnVerb, IntoVerb, on_word, into_word, kind_word, has_value}
-use Rattle.script_tree.specs.Forms.{is_plain}
+use Rattle.script_tree.specs.declared.verb.OnVerb.{OnVerb}
+use Rattle.script_tree.specs.declared.verb.IntoVerb.{IntoVerb}
+use Rattle.script_tree.specs.Forms.{on_word, into_word, kind_word, has_value, is_plain}
 use Rattle.script_tree.specs.Lines.{version_of, begins_with, declared_name, names_of, opens, depth}
 use Rattle.script_tree.specs.Lines.{opener}
 use Rattle.script_parse.specs.Part.{Open, Part}
@@ -147,11 +150,11 @@ quiet_at word rest k o e t = record {
 }
 
 pub on_quiet : (verb : OnVerb) (rest : List Token) → IsQuiet (Word (on_word verb) ∷ rest)
-on_quiet forms.Lock rest = quiet_at _ rest refl refl refl refl
+on_quiet on_verbs.Lock rest = quiet_at _ rest refl refl refl refl
 on_quiet verb rest = quiet_at _ rest refl refl refl refl
 
 pub into_quiet : (verb : IntoVerb) (rest : List Token) → IsQuiet (Word (into_word verb) ∷ rest)
-into_quiet forms.Read rest = quiet_at _ rest refl refl refl refl
+into_quiet into_verbs.Read rest = quiet_at _ rest refl refl refl refl
 into_quiet verb rest = quiet_at _ rest refl refl refl refl
 
 -- the open blocks are as many, and as many of them are an `if` without `else`

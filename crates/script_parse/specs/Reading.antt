@@ -19,7 +19,11 @@ use Rattle.script_tree.specs.declared.fault.ScriptFault.TheVariants.{BadToken, B
 use Rattle.script_tree.specs.declared.fault.ScriptFault.TheVariants.{UnknownName, TwiceNamed}
 use Rattle.script_tree.specs.declared.fault.ScriptFault.TheVariants.{NumberRange, NoEnd, StrayEnd}
 use Rattle.script_tree.specs.declared.fault.ScriptFault.TheVariants.{NoThread, TooMany}
-use Rattle.script_tree.specs.Forms.{MeantForm, OnVerb, IntoVerb, on_kind, into_kind, value_in}
+use Rattle.script_tree.specs.declared.verb.OnVerb.{OnVerb}
+use Rattle.script_tree.specs.declared.verb.IntoVerb.{IntoVerb}
+use Rattle.script_tree.specs.Forms.{MeantForm, on_kind, into_kind, value_in}
+use Rattle.script_tree.specs.declared.verb.OnVerb.TheVariants as on_verbs
+use Rattle.script_tree.specs.declared.verb.IntoVerb.TheVariants as into_verbs
 use Rattle.script_tree.specs.Forms as forms
 use Rattle.script_tree.specs.Lines.{version_in, threads_begun}
 use Rattle.script_tree.specs.Ranges.{is_out_of_range}
@@ -84,25 +88,25 @@ form_fault part find last tokens form =
 -- ---- one form more
 
 abbrev pub on_statement : OnVerb → ℕ → ℕ → Statement
-on_statement forms.Lock line place = trees.Lock line place
-on_statement forms.Unlock line place = trees.Unlock line place
-on_statement forms.Signal line place = trees.Signal line place
-on_statement forms.Broadcast line place = trees.Broadcast line place
-on_statement forms.Down line place = trees.Down line place
-on_statement forms.Up line place = trees.Up line place
-on_statement forms.Join line place = trees.Join line place
-on_statement forms.Start line place = trees.Start line place
-on_statement forms.RdLock line place = trees.RdLock line place
-on_statement forms.WrLock line place = trees.WrLock line place
-on_statement forms.RwUnlock line place = trees.RwUnlock line place
+on_statement on_verbs.Lock line place = trees.Lock line place
+on_statement on_verbs.Unlock line place = trees.Unlock line place
+on_statement on_verbs.Signal line place = trees.Signal line place
+on_statement on_verbs.Broadcast line place = trees.Broadcast line place
+on_statement on_verbs.Down line place = trees.Down line place
+on_statement on_verbs.Up line place = trees.Up line place
+on_statement on_verbs.Join line place = trees.Join line place
+on_statement on_verbs.Start line place = trees.Start line place
+on_statement on_verbs.RdLock line place = trees.RdLock line place
+on_statement on_verbs.WrLock line place = trees.WrLock line place
+on_statement on_verbs.RwUnlock line place = trees.RwUnlock line place
 
 abbrev pub into_statement : IntoVerb → ℕ → ℕ → ℕ → Statement
-into_statement forms.Read line reg place = trees.Read line reg place
-into_statement forms.TryLock line reg place = trees.TryLock line reg place
-into_statement forms.TryDown line reg place = trees.TryDown line reg place
-into_statement forms.Arrive line reg place = trees.Arrive line reg place
-into_statement forms.TryRdLock line reg place = trees.TryRdLock line reg place
-into_statement forms.TryWrLock line reg place = trees.TryWrLock line reg place
+into_statement into_verbs.Read line reg place = trees.Read line reg place
+into_statement into_verbs.TryLock line reg place = trees.TryLock line reg place
+into_statement into_verbs.TryDown line reg place = trees.TryDown line reg place
+into_statement into_verbs.Arrive line reg place = trees.Arrive line reg place
+into_statement into_verbs.TryRdLock line reg place = trees.TryRdLock line reg place
+into_statement into_verbs.TryWrLock line reg place = trees.TryWrLock line reg place
 
 -- the statement on a line, where the names that it uses are known and it opens and closes no block
 abbrev pub statement_on : NameLists → Finder → ℕ → MeantForm → Option Statement

@@ -4,33 +4,8 @@ use Rattle.pct_ask.specs.Tokens.{Token, Number, Symbol}
 use Rattle.script_tree.specs.Forms as language
 use Rattle.script_tree.specs.Forms.{MeantForm}
 use Rattle.script_parse.specs.Spellings.{spelled_tree}
-use Rattle.script_parse.specs.declared.form.OnVerb.{OnVerb}
-use Rattle.script_parse.specs.declared.form.OnVerb.TheVariants as on
-use Rattle.script_parse.specs.declared.form.IntoVerb.{IntoVerb}
-use Rattle.script_parse.specs.declared.form.IntoVerb.TheVariants as into
 use Rattle.script_parse.specs.declared.form.Form.{Form}
 use Rattle.script_parse.specs.declared.form.Form.TheVariants as forms
-
-abbrev pub seen_on : OnVerb → language.OnVerb
-seen_on on.Lock = language.Lock
-seen_on on.Unlock = language.Unlock
-seen_on on.Signal = language.Signal
-seen_on on.Broadcast = language.Broadcast
-seen_on on.Down = language.Down
-seen_on on.Up = language.Up
-seen_on on.Join = language.Join
-seen_on on.Start = language.Start
-seen_on on.RdLock = language.RdLock
-seen_on on.WrLock = language.WrLock
-seen_on on.RwUnlock = language.RwUnlock
-
-abbrev pub seen_into : IntoVerb → language.IntoVerb
-seen_into into.Read = language.Read
-seen_into into.TryLock = language.TryLock
-seen_into into.TryDown = language.TryDown
-seen_into into.Arrive = language.Arrive
-seen_into into.TryRdLock = language.TryRdLock
-seen_into into.TryWrLock = language.TryWrLock
 
 -- the tokens of a first value
 abbrev pub seen_value_tokens : Bool → List ℕ → List Token
@@ -43,8 +18,8 @@ seen_form (forms.Plain kind name) = language.Plain kind name.now
 seen_form (forms.Valued kind name minus digits) =
     language.Valued kind name.now (seen_value_tokens minus digits.now)
 seen_form (forms.Thread name) = language.Thread name.now
-seen_form (forms.On verb object) = language.On (seen_on verb) object.now
-seen_form (forms.Into verb reg object) = language.Into (seen_into verb) reg object.now
+seen_form (forms.On verb object) = language.On verb object.now
+seen_form (forms.Into verb reg object) = language.Into verb reg object.now
 seen_form (forms.Write var value) = language.Write var.now (spelled_tree value)
 seen_form (forms.Add reg var value) = language.Add reg var.now (spelled_tree value)
 seen_form (forms.Cas reg var old new) =

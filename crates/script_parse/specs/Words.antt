@@ -3,35 +3,8 @@ use Rattle.std.specs.Prelude.{ℕ, if◌then◌else◌, List, Option, Some, None
 use Rattle.std.specs.Str.{bytes_eq}
 use Rattle.pct_ask.specs.declared.names.NameKind.{NameKind}
 use Rattle.pct_ask.specs.declared.names.NameKind.TheVariants as kinds
-use Rattle.script_tree.specs.Forms.{OnVerb, Lock, Unlock, Signal, Broadcast, Down, Up, Join, Start}
-use Rattle.script_tree.specs.Forms.{RdLock, WrLock, RwUnlock, IntoVerb, Read, TryLock, TryDown}
-use Rattle.script_tree.specs.Forms.{Arrive, TryRdLock, TryWrLock}
 
-abbrev pub on_verb_in : List ℕ → Option OnVerb
-on_verb_in word =
-    if bytes_eq word (codes "lock") then Some Lock
-    else (if bytes_eq word (codes "unlock") then Some Unlock
-    else (if bytes_eq word (codes "signal") then Some Signal
-    else (if bytes_eq word (codes "broadcast") then Some Broadcast
-    else (if bytes_eq word (codes "down") then Some Down
-    else (if bytes_eq word (codes "up") then Some Up
-    else (if bytes_eq word (codes "join") then Some Join
-    else (if bytes_eq word (codes "start") then Some Start
-    else (if bytes_eq word (codes "rdlock") then Some RdLock
-    else (if bytes_eq word (codes "wrlock") then Some WrLock
-    else (if bytes_eq word (codes "rwunlock") then Some RwUnlock
-    else None))))))))))
-
-abbrev pub into_verb_in : List ℕ → Option IntoVerb
-into_verb_in word =
-    if bytes_eq word (codes "read") then Some Read
-    else (if bytes_eq word (codes "trylock") then Some TryLock
-    else (if bytes_eq word (codes "trydown") then Some TryDown
-    else (if bytes_eq word (codes "arrive") then Some Arrive
-    else (if bytes_eq word (codes "tryrdlock") then Some TryRdLock
-    else (if bytes_eq word (codes "trywrlock") then Some TryWrLock
-    else None)))))
-
+-- the kind that this word declares
 abbrev pub kind_in : List ℕ → Option NameKind
 kind_in word =
     if bytes_eq word (codes "thread") then Some kinds.Thread

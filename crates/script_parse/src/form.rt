@@ -4,7 +4,7 @@ ghost use Rattle.std.specs.Prelude.{◌≡◌, IfOk};
 ghost use Rattle.std.specs.List.{position};
 ghost use Rattle.std.specs.Option.{option_map};
 ghost use Rattle.script_parse.specs.Seen.{seen, all_seen};
-ghost use Rattle.script_parse.specs.SeenForms.{seen_on, seen_into, seen_form};
+ghost use Rattle.script_parse.specs.SeenForms.{seen_form};
 ghost use Rattle.script_tree.specs.Forms.{Assert, If, While};
 ghost use Rattle.script_parse.specs.Machine.{expression_in};
 ghost use Rattle.script_parse.specs.Saying as saying;
@@ -13,36 +13,9 @@ use crate::declaration::{declared_form, kind_of};
 use crate::expression::{expression_of, says};
 use crate::spelling::Spelling;
 use crate::token::Token;
-use crate::verb::{into_verb_of, into_verb_since, on_verb_of, on_verb_since};
 use pct_ask::{NameKind, is_lawful_name, register_of};
+use script_tree::{IntoVerb, OnVerb};
 use std::alloc::{AllocError as NoMemory, Global};
-
-/// A statement on one object.
-#[derive(Clone, Copy)]
-pub enum OnVerb {
-    Lock,
-    Unlock,
-    Signal,
-    Broadcast,
-    Down,
-    Up,
-    Join,
-    Start,
-    RdLock,
-    WrLock,
-    RwUnlock,
-}
-
-/// A statement whose answer goes from one object into a register.
-#[derive(Clone, Copy)]
-pub enum IntoVerb {
-    Read,
-    TryLock,
-    TryDown,
-    Arrive,
-    TryRdLock,
-    TryWrLock,
-}
 
 /// What a line says.
 #[derive(Drop)]
@@ -108,12 +81,12 @@ pub enum Form<'a> {
 
 fn on_form<'a>(version: u32, verb: OnVerb, tokens: &[Token<'a>]) -> Option<Form<'a>>
     ensures { option_map seen_form result
-        ≡ saying.on_form version (seen_on verb) (all_seen tokens.now) }
+        ≡ saying.on_form version verb (all_seen tokens.now) }
 {
     let [Token::Word(object)] = tokens else {
         return None;
     };
-    if on_verb_since(verb) <= version && is_lawful_name(version, object) {
+    if verb.row().since <= version && is_lawful_name(version, object) {
         Some(Form::On { verb, object })
     } else {
         None
@@ -137,9 +110,9 @@ fn into_object<'a>(
     object: &'a [u8],
 ) -> Option<Form<'a>>
     ensures { option_map seen_form result
-        ≡ saying.into_object version (seen_into verb) register.now object.now }
+        ≡ saying.into_object version verb register.now object.now }
 {
-    if into_verb_since(verb) > version || !is_lawful_name(version, object) {
+    if verb.row().since > version || !is_lawful_name(version, object) {
         return None;
     }
     let reg = register_of(register)?;
@@ -148,7 +121,7 @@ fn into_object<'a>(
 
 fn into_form<'a>(version: u32, verb: IntoVerb, tokens: &[Token<'a>]) -> Option<Form<'a>>
     ensures { option_map seen_form result
-        ≡ saying.into_form version (seen_into verb) (all_seen tokens.now) }
+        ≡ saying.into_form version verb (all_seen tokens.now) }
 {
     let [Token::Word(register), operands @ ..] = tokens else {
         return None;
@@ -415,10 +388,10 @@ pub fn form_of<'a>(
     let [Token::Word(word), operands @ ..] = tokens else {
         return Ok(None);
     };
-    if let Some(verb) = on_verb_of(word) {
+    if let Some(verb) = OnVerb::of(word) {
         return Ok(on_form(version, verb, operands));
     }
-    if let Some(verb) = into_verb_of(word) {
+    if let Some(verb) = IntoVerb::of(word) {
         return Ok(into_form(version, verb, operands));
     }
     match kind_of(word) {

@@ -21,7 +21,6 @@ mod reader;
 mod spelling;
 mod statement;
 mod token;
-mod verb;
 
 pub use fault::ScriptError;
 pub use parsing::{SCRIPT_BYTES, one_answer, parse, print_is_read};

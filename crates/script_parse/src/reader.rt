@@ -26,9 +26,9 @@ use crate::form::Form;
 use crate::number::first_value;
 use crate::range::is_out_of_range;
 use crate::spelling::{Spelling, expression_at};
-use crate::statement::{into_kind, on_kind, place_in, statement_on};
+use crate::statement::{place_in, statement_on};
 use crate::token::Token;
-use pct_ask::{MAX_OBJECTS, NameKind, Names, NumberList};
+use pct_ask::{MAX_OBJECTS, MAX_THREADS, NameKind, Names, NumberList};
 use script_tree::{Block, Script, ScriptFault, Stmt, ThreadText};
 use std::alloc::{AllocError as NoMemory, Global};
 
@@ -96,8 +96,8 @@ impl Reader {
             (seen_form form.now) }
     {
         match form {
-            Form::On { verb, object } => !self.is_known_name(ahead, on_kind(*verb), object),
-            Form::Into { verb, object, .. } => !self.is_known_name(ahead, into_kind(*verb), object),
+            Form::On { verb, object } => !self.is_known_name(ahead, verb.row().kind, object),
+            Form::Into { verb, object, .. } => !self.is_known_name(ahead, verb.row().kind, object),
             Form::Write { var, .. } | Form::Add { var, .. } | Form::Cas { var, .. } => {
                 !self.is_known_name(ahead, NameKind::Var, var)
             }
@@ -159,7 +159,11 @@ impl Reader {
     fn most_threads(&self) -> u32
         ensures { result ≡ fitting.most_threads self.now.version }
     {
-        if self.version >= 3 { 64 } else { 16 }
+        if self.version >= 3 {
+            MAX_THREADS as u32
+        } else {
+            16
+        }
     }
 
     fn is_too_many(&self, form: &Form<'_>) -> bool

@@ -2,47 +2,20 @@
 
 ghost use Rattle.std.specs.Prelude.{◌≡◌, IfOk};
 ghost use Rattle.std.specs.Option.{option_map};
-ghost use Rattle.script_tree.specs.Forms as language;
 ghost use Rattle.script_tree.specs.Forms.{On, Into, Wait};
 ghost use Rattle.script_tree.specs.Seen.{expression, statement};
 ghost use Rattle.script_tree.specs.Trees as trees;
-ghost use Rattle.script_parse.specs.SeenForms.{seen_on, seen_into, seen_form};
+ghost use Rattle.script_parse.specs.SeenForms.{seen_form};
 ghost use Rattle.script_parse.specs.Ahead.{place_ahead};
 ghost use Rattle.script_parse.specs.Lawful.{NumbersAreSmall};
 ghost use Rattle.script_parse.specs.Reading as reading;
 
 use crate::ahead::Ahead;
-use crate::form::{Form, IntoVerb, OnVerb};
+use crate::form::Form;
 use crate::spelling::expression_at;
 use pct_ask::{NameKind, Names};
-use script_tree::{Expr, Stmt};
+use script_tree::{Expr, IntoVerb, OnVerb, Stmt};
 use std::alloc::{AllocError as NoMemory, Global};
-
-/// The kind of the object that a statement is on.
-pub fn on_kind(verb: OnVerb) -> NameKind
-    ensures { result ≡ language.on_kind (seen_on verb) }
-{
-    match verb {
-        OnVerb::Lock | OnVerb::Unlock => NameKind::Mutex,
-        OnVerb::Signal | OnVerb::Broadcast => NameKind::Cond,
-        OnVerb::Down | OnVerb::Up => NameKind::Sem,
-        OnVerb::Join | OnVerb::Start => NameKind::Thread,
-        OnVerb::RdLock | OnVerb::WrLock | OnVerb::RwUnlock => NameKind::RwLock,
-    }
-}
-
-/// The kind of the object that a statement asks.
-pub fn into_kind(verb: IntoVerb) -> NameKind
-    ensures { result ≡ language.into_kind (seen_into verb) }
-{
-    match verb {
-        IntoVerb::Read => NameKind::Var,
-        IntoVerb::TryLock => NameKind::Mutex,
-        IntoVerb::TryDown => NameKind::Sem,
-        IntoVerb::Arrive => NameKind::Barrier,
-        IntoVerb::TryRdLock | IntoVerb::TryWrLock => NameKind::RwLock,
-    }
-}
 
 /// Where a name of a kind stands among those of its kind: a thread's among those of the whole text.
 pub fn place_in(names: &Names, ahead: &Ahead<'_>, kind: NameKind, name: &[u8]) -> Option<u32>
@@ -56,7 +29,7 @@ pub fn place_in(names: &Names, ahead: &Ahead<'_>, kind: NameKind, name: &[u8]) -
 
 #[tactic(auto, using(script_tree::proofs::laws::SeenParts::seen_laws))]
 fn on_statement(verb: OnVerb, line: u32, place: u32) -> Stmt
-    ensures { statement result ≡ reading.on_statement (seen_on verb) line place }
+    ensures { statement result ≡ reading.on_statement verb line place }
 {
     match verb {
         OnVerb::Lock => Stmt::Lock { line, mutex: place },
@@ -90,7 +63,7 @@ fn on_statement(verb: OnVerb, line: u32, place: u32) -> Stmt
 
 #[tactic(auto, using(script_tree::proofs::laws::SeenParts::seen_laws))]
 fn into_statement(verb: IntoVerb, line: u32, reg: u32, place: u32) -> Stmt
-    ensures { statement result ≡ reading.into_statement (seen_into verb) line reg place }
+    ensures { statement result ≡ reading.into_statement verb line reg place }
 {
     match verb {
         IntoVerb::Read => Stmt::Read {
@@ -135,9 +108,9 @@ fn on_object(
 ) -> Option<Stmt>
     ensures { option_map statement result
         ≡ reading.statement_on names.now (place_ahead ahead.now) line
-        (On (seen_on verb) object.now) }
+        (On verb object.now) }
 {
-    let place = place_in(names, ahead, on_kind(verb), object)?;
+    let place = place_in(names, ahead, verb.row().kind, object)?;
     Some(on_statement(verb, line, place))
 }
 
@@ -151,9 +124,9 @@ fn into_register(
 ) -> Option<Stmt>
     ensures { option_map statement result
         ≡ reading.statement_on names.now (place_ahead ahead.now) line
-        (Into (seen_into verb) reg object.now) }
+        (Into verb reg object.now) }
 {
-    let place = place_in(names, ahead, into_kind(verb), object)?;
+    let place = place_in(names, ahead, verb.row().kind, object)?;
     Some(into_statement(verb, line, reg, place))
 }
 

@@ -86,24 +86,11 @@ name_cut version name lawful = word_cut name (name_is_word version name lawful)
 
 on_is_word : (verb : OnVerb) → is_word (on_word verb) ≡ true
 on_is_word forms.Lock = refl
-on_is_word forms.Unlock = refl
-on_is_word forms.Signal = refl
-on_is_word forms.Broadcast = refl
-on_is_word forms.Down = refl
-on_is_word forms.Up = refl
-on_is_word forms.Join = refl
-on_is_word forms.Start = refl
-on_is_word forms.RdLock = refl
-on_is_word forms.WrLock = refl
-on_is_word forms.RwUnlock = refl
+on_is_word verb = refl
 
 into_is_word : (verb : IntoVerb) → is_word (into_word verb) ≡ true
 into_is_word forms.Read = refl
-into_is_word forms.TryLock = refl
-into_is_word forms.TryDown = refl
-into_is_word forms.Arrive = refl
-into_is_word forms.TryRdLock = refl
-into_is_word forms.TryWrLock = refl
+into_is_word verb = refl
 
 kind_is_word : (kind : NameKind) → is_word (kind_word kind) ≡ true
 kind_is_word kinds.Thread = refl

@@ -88,24 +88,11 @@ declared_value-none kind word (Symbol signs ∷ tokens) h = refl
 
 on_no_kind : (verb : OnVerb) → is_no_kind (on_word verb) ≡ true
 on_no_kind forms.Lock = refl
-on_no_kind forms.Unlock = refl
-on_no_kind forms.Signal = refl
-on_no_kind forms.Broadcast = refl
-on_no_kind forms.Down = refl
-on_no_kind forms.Up = refl
-on_no_kind forms.Join = refl
-on_no_kind forms.Start = refl
-on_no_kind forms.RdLock = refl
-on_no_kind forms.WrLock = refl
-on_no_kind forms.RwUnlock = refl
+on_no_kind verb = refl
 
 into_no_kind : (verb : IntoVerb) → is_no_kind (into_word verb) ≡ true
 into_no_kind forms.Read = refl
-into_no_kind forms.TryLock = refl
-into_no_kind forms.TryDown = refl
-into_no_kind forms.Arrive = refl
-into_no_kind forms.TryRdLock = refl
-into_no_kind forms.TryWrLock = refl
+into_no_kind verb = refl
 
 -- the first word of a line inside a thread
 abbrev first_word : MeantForm → List ℕ

@@ -22,7 +22,7 @@ use Rattle.script_tree.specs.Fitting.{most_threads}
 use Rattle.script_tree.specs.Lines.{tokens_in, is_blank_line, version_in, version_of, begins_with}
 use Rattle.script_tree.specs.Lines.{opens}
 use Rattle.script_tree.specs.Lines.{declared_name, names_of, depth, opener, threads_begun}
-use Rattle.pct_ask.specs.declared.limits.TheConstants.{MAX_OBJECTS}
+use Rattle.pct_ask.specs.declared.limits.TheConstants.{MAX_LINES, MAX_OBJECTS}
 
 -- a line in its text, with the lines before it and those after it
 pub record Place : Type 0 where
@@ -182,7 +182,7 @@ LineTooLong place = 256 < length place.line
 
 -- at least 4,096 lines stand before it
 abbrev pub TooManyLines : Place → Type 0
-TooManyLines place = 4096 ≤ length place.before
+TooManyLines place = MAX_LINES ≤ length place.before
 
 -- it is the first line that isn't blank and no header; or line 1, where all are blank
 abbrev pub BadHeader : Place → Type 0

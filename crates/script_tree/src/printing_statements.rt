@@ -7,6 +7,7 @@ ghost use Rattle.script_tree.specs.Trees.{has_no_block, statement_list};
 ghost use Rattle.script_tree.specs.Seen.{expression, statement, block};
 ghost use Rattle.pct_ask.specs.Words.{register_word};
 ghost use Rattle.pct_ask.specs.TraceText.{name_at};
+ghost use Rattle.script_tree.specs.Forms.{on_word, on_kind, into_word, into_kind};
 ghost use Rattle.script_tree.specs.Grammar.{statement_lines};
 ghost use Rattle.script_tree.specs.Layout.{spaced_words, expression_text};
 ghost use Rattle.script_tree.specs.Printing.{printed_lines, are_ranged, is_ranged, names_one};
@@ -14,6 +15,7 @@ ghost use Rattle.script_tree.specs.Printing.{printed_lines, are_ranged, is_range
 use crate::expr::Expr;
 use crate::printing_words::{push_expression, push_last, push_spaced};
 use crate::stmt::{Block, Stmt};
+use crate::verb::{IntoVerb, OnVerb};
 use pct_ask::{NameKind, Names, name_at, register_word};
 use std::alloc::AllocError as NoMemory;
 
@@ -114,33 +116,29 @@ fn push_named(stmt: &Stmt, names: &Names, out: &mut Vec<u8>) -> Result<(), NoMem
     ensures ranged { are_ranged (statement_lines names.now (statement stmt.now)) ≡ true }
 {
     match *stmt {
-        Stmt::Read { reg, var, .. } => push_into(b"read", reg, NameKind::Var, var, names, out),
-        Stmt::Lock { mutex, .. } => push_on(b"lock", NameKind::Mutex, mutex, names, out),
-        Stmt::TryLock { reg, mutex, .. } => {
-            push_into(b"trylock", reg, NameKind::Mutex, mutex, names, out)
-        }
-        Stmt::Unlock { mutex, .. } => push_on(b"unlock", NameKind::Mutex, mutex, names, out),
-        Stmt::Signal { cond, .. } => push_on(b"signal", NameKind::Cond, cond, names, out),
-        Stmt::Broadcast { cond, .. } => push_on(b"broadcast", NameKind::Cond, cond, names, out),
-        Stmt::Down { sem, .. } => push_on(b"down", NameKind::Sem, sem, names, out),
-        Stmt::TryDown { reg, sem, .. } => {
-            push_into(b"trydown", reg, NameKind::Sem, sem, names, out)
-        }
-        Stmt::Up { sem, .. } => push_on(b"up", NameKind::Sem, sem, names, out),
+        Stmt::Read { reg, var, .. } => push_into(IntoVerb::Read, reg, var, names, out),
+        Stmt::Lock { mutex, .. } => push_on(OnVerb::Lock, mutex, names, out),
+        Stmt::TryLock { reg, mutex, .. } => push_into(IntoVerb::TryLock, reg, mutex, names, out),
+        Stmt::Unlock { mutex, .. } => push_on(OnVerb::Unlock, mutex, names, out),
+        Stmt::Signal { cond, .. } => push_on(OnVerb::Signal, cond, names, out),
+        Stmt::Broadcast { cond, .. } => push_on(OnVerb::Broadcast, cond, names, out),
+        Stmt::Down { sem, .. } => push_on(OnVerb::Down, sem, names, out),
+        Stmt::TryDown { reg, sem, .. } => push_into(IntoVerb::TryDown, reg, sem, names, out),
+        Stmt::Up { sem, .. } => push_on(OnVerb::Up, sem, names, out),
         Stmt::Arrive { reg, barrier, .. } => {
-            push_into(b"arrive", reg, NameKind::Barrier, barrier, names, out)
+            push_into(IntoVerb::Arrive, reg, barrier, names, out)
         }
-        Stmt::Join { thread, .. } => push_on(b"join", NameKind::Thread, thread, names, out),
-        Stmt::Start { thread, .. } => push_on(b"start", NameKind::Thread, thread, names, out),
-        Stmt::RdLock { rwlock, .. } => push_on(b"rdlock", NameKind::RwLock, rwlock, names, out),
-        Stmt::WrLock { rwlock, .. } => push_on(b"wrlock", NameKind::RwLock, rwlock, names, out),
+        Stmt::Join { thread, .. } => push_on(OnVerb::Join, thread, names, out),
+        Stmt::Start { thread, .. } => push_on(OnVerb::Start, thread, names, out),
+        Stmt::RdLock { rwlock, .. } => push_on(OnVerb::RdLock, rwlock, names, out),
+        Stmt::WrLock { rwlock, .. } => push_on(OnVerb::WrLock, rwlock, names, out),
         Stmt::TryRdLock { reg, rwlock, .. } => {
-            push_into(b"tryrdlock", reg, NameKind::RwLock, rwlock, names, out)
+            push_into(IntoVerb::TryRdLock, reg, rwlock, names, out)
         }
         Stmt::TryWrLock { reg, rwlock, .. } => {
-            push_into(b"trywrlock", reg, NameKind::RwLock, rwlock, names, out)
+            push_into(IntoVerb::TryWrLock, reg, rwlock, names, out)
         }
-        Stmt::RwUnlock { rwlock, .. } => push_on(b"rwunlock", NameKind::RwLock, rwlock, names, out),
+        Stmt::RwUnlock { rwlock, .. } => push_on(OnVerb::RwUnlock, rwlock, names, out),
         Stmt::Write { .. } | Stmt::Add { .. } | Stmt::Cas { .. } => unreachable!(),
         Stmt::Wait { .. } | Stmt::Yield { .. } | Stmt::Assert { .. } => unreachable!(),
         Stmt::Set { .. } | Stmt::If { .. } | Stmt::While { .. } => unreachable!(),
@@ -148,27 +146,23 @@ fn push_named(stmt: &Stmt, names: &Names, out: &mut Vec<u8>) -> Result<(), NoMem
 }
 
 // A statement on one object.
-fn push_on(
-    verb: &[u8],
-    kind: NameKind,
-    place: u32,
-    names: &Names,
-    out: &mut Vec<u8>,
-) -> Result<(), NoMemory>
+fn push_on(verb: OnVerb, place: u32, names: &Names, out: &mut Vec<u8>) -> Result<(), NoMemory>
     ensures { OnOk result
         (out.new.items
         ≡ out.old.items
-        ++ (spaced_words (verb.now ∷ name_at (list_of kind names.now) place ∷ []) ++ 10 ∷ [])) }
+        ++ (spaced_words
+        (on_word verb ∷ name_at (list_of (on_kind verb) names.now) place ∷ [])
+        ++ 10 ∷ [])) }
 {
-    push_spaced(verb, out)?;
-    push_last(name_at(names, kind, place), out)
+    let row = verb.row();
+    push_spaced(row.word, out)?;
+    push_last(name_at(names, row.kind, place), out)
 }
 
 // A statement whose answer goes from one object into a register.
 fn push_into(
-    verb: &[u8],
+    verb: IntoVerb,
     register: u32,
-    kind: NameKind,
     place: u32,
     names: &Names,
     out: &mut Vec<u8>,
@@ -177,11 +171,14 @@ fn push_into(
         (out.new.items
         ≡ out.old.items
         ++ (spaced_words
-        (verb.now ∷ register_word register ∷ name_at (list_of kind names.now) place ∷ [])
+        (into_word verb ∷ register_word register
+        ∷ name_at (list_of (into_kind verb) names.now) place ∷ [])
         ++ 10 ∷ [])) }
 {
-    push_spaced(verb, out)?;
-    push_on(register_word(register), kind, place, names, out)
+    let row = verb.row();
+    push_spaced(row.word, out)?;
+    push_spaced(register_word(register), out)?;
+    push_last(name_at(names, row.kind, place), out)
 }
 
 fn push_write(var: u32, value: &Expr, names: &Names, out: &mut Vec<u8>) -> Result<(), NoMemory>

@@ -1,0 +1,18 @@
+use Rattle.std.specs.Prelude.{◌≡◌}
+use Rattle.std.specs.List.{find}
+use Rattle.std.specs.Option.{option_map}
+use Rattle.std.specs.Str.{bytes_eq}
+use Rattle.std.proofs.Common.{rules, tests, ◌∙◌}
+use Rattle.std.proofs.lemmas.Iterator.{YieldsList-from_slice}
+use Rattle.std.proofs.lemmas.Iterator.Search.{find_from_yields_List}
+use Rattle.script_tree.specs.Forms.{on_word}
+use Rattle.script_tree.specs.declared.verb.TheConstants.{ON_VERBS}
+use Rattle.script_tree.proofs.verb.OnVerb.of.Goals as goal
+
+pub returns : goal.returns
+returns c =
+    let found : option_map (λ verb. verb.now) c.find.result
+    ≡ find (λ verb. bytes_eq c.args.word.now (on_word verb)) ON_VERBS.now
+    = find_from_yields_List (λ verb. bytes_eq c.args.word.now (on_word verb)) _ _ _
+    c.find.ensures.ran (YieldsList-from_slice ON_VERBS.now cc) (λ x b q k. search (rules, tests)) in
+    c.copied.ensures ∙ found
