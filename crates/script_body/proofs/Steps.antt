@@ -17,8 +17,7 @@ use Rattle.script_code.specs.Placed.{is_end, last_place}
 use Rattle.script_code.specs.FlatPosts.{Spot, spot, last_spot, is_fault, lone_move, after_lone}
 use Rattle.script_code.specs.FlatPosts.{test_move, flat_act, flat_head, flat_pending_from}
 use Rattle.script_code.proofs.laws.Listings.{some_operation}
-use Rattle.script_body.specs.declared.turn.Turn.TheVariants as turns
-use Rattle.script_body.specs.Turns.{turn_of}
+use Rattle.script_body.specs.Turns.{turn_of, Posts, MovesOn}
 use Rattle.script_body.specs.Waiting.{after_act, spot_after, is_waiting, stand_of, Settles}
 use Rattle.script_body.specs.Waiting.{asks_fault, spot_after_fault, pending_at}
 use Rattle.script_body.proofs.Ends.{head_at_end}
@@ -62,7 +61,7 @@ module _ (code : List Operation) where
   not_true false e = refl
 
   shows : (line : ℕ) (a : Act Spot) (move : Result Spot FaultKind → Stand Spot) (post : Post)
-      → turn_of line a ≡ turns.Posts post → Shows (by line a move) a post
+      → turn_of line a ≡ Posts post → Shows (by line a move) a post
   shows line (Moves next) move post e = absurd (cc)
   shows line (Asks ask f) move post e =
       let same : record { ask = Some ask; line = line } ≡ post = cc in
@@ -84,7 +83,7 @@ module _ (code : List Operation) where
       }
 
   stand_shows : (limit : ℕ) (at : Spot) (post : Post)
-      → turn_of (flat_head code at).0 (flat_head code at).1 ≡ turns.Posts post
+      → turn_of (flat_head code at).0 (flat_head code at).1 ≡ Posts post
       → Shows (the_stand limit at) (flat_head code at).1 post
   stand_shows zero at post e =
       shows (flat_head code at).0 (flat_head code at).1
@@ -169,7 +168,7 @@ module _ (code : List Operation) where
 
     pub settled_post : (from at new : Spot) (k : ℕ) (post : Post)
         → stand_of code from ≡ the_stand k at
-        → turn_of (flat_head code at).0 (flat_head code at).1 ≡ turns.Posts post
+        → turn_of (flat_head code at).0 (flat_head code at).1 ≡ Posts post
         → new ≡ spot_after_fault code post.ask at → at.place < length code
         → Settles code from new post
     settled_post from at new k post same turn n inside =
@@ -194,11 +193,11 @@ module _ (code : List Operation) where
           inside = subst (λ (t : Spot). t.place < length code) (sym here) last_inside;
         }
 
-    move_line : (line : ℕ) (h : ℕ × Act Spot) → turn_of h.0 h.1 ≡ turns.Moves line
+    move_line : (line : ℕ) (h : ℕ × Act Spot) → turn_of h.0 h.1 ≡ MovesOn line
         → (h.0 ≡ line) × ((next : Result Spot FaultKind) × (h.1 ≡ Moves next))
     move_line line h e = go h.0 h.1 e
       where
-        go : (n : ℕ) (a : Act Spot) → turn_of n a ≡ turns.Moves line
+        go : (n : ℕ) (a : Act Spot) → turn_of n a ≡ MovesOn line
             → (n ≡ line) × ((next : Result Spot FaultKind) × (a ≡ Moves next))
         go n (Moves next) e = (cc, (next, refl))
         go n (Asks ask f) e = absurd (cc)
@@ -206,7 +205,7 @@ module _ (code : List Operation) where
 
     pub settled_move_fault : (from at left new : Spot) (k m line : ℕ) (kind : FaultKind)
         (post : Post) → stand_of code from ≡ the_stand k at → k ≡ m + 1 →
-        turn_of (flat_head code at).0 (flat_head code at).1 ≡ turns.Moves line
+        turn_of (flat_head code at).0 (flat_head code at).1 ≡ MovesOn line
         → (flat_head code at).1 ≡ Moves (Err kind) →
         post ≡ record { ask = Some (Fault kind); line = line }
         → new ≡ spot_after_fault code post.ask left
@@ -224,7 +223,7 @@ module _ (code : List Operation) where
 
     pub settled_spin : (from at new : Spot) (line : ℕ) (post : Post)
         → stand_of code from ≡ the_stand 0 at →
-        turn_of (flat_head code at).0 (flat_head code at).1 ≡ turns.Moves line →
+        turn_of (flat_head code at).0 (flat_head code at).1 ≡ MovesOn line →
         post ≡ record { ask = Some (Fault Spin); line = line }
         → new ≡ spot_after_fault code post.ask at
         → Settles code from new post

@@ -1,14 +1,24 @@
 -- What comes first at a spot, without where it leads (this project).
 use Rattle.std.specs.Prelude.{ℕ, Bool, true, false, Some, None}
 use Rattle.script_tree.specs.Machine.{Act, Moves, Asks, Ends}
-use Rattle.script_body.specs.declared.turn.Turn.{Turn}
-use Rattle.script_body.specs.declared.turn.Turn.TheVariants as turns
+use Rattle.pct_ask.specs.declared.ask.Post.{Post}
+use Rattle.script_body.specs.declared.turn.Next.{Next}
+use Rattle.script_body.specs.declared.turn.Next.TheVariants as nexts
 
 -- a post, or a local move on a line
+pub data Turn : Type 0 where
+  Posts : Post → Turn
+  MovesOn : ℕ → Turn
+
 abbrev pub turn_of : {S : Type 0} → ℕ → Act S → Turn
-turn_of line (Moves next) = turns.Moves line
-turn_of line (Asks ask after) = turns.Posts (record { ask = Some ask; line = line })
-turn_of line Ends = turns.Posts (record { ask = None; line = line })
+turn_of line (Moves next) = MovesOn line
+turn_of line (Asks ask after) = Posts (record { ask = Some ask; line = line })
+turn_of line Ends = Posts (record { ask = None; line = line })
+
+-- the turn of which it is told what comes next, where a post stands beside
+abbrev pub told_turn : Next → Post → Turn
+told_turn nexts.Post post = Posts post
+told_turn (nexts.Move line) post = MovesOn line
 
 abbrev pub is_move : {S : Type 0} → Act S → Bool
 is_move (Moves next) = true

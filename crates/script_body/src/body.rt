@@ -56,7 +56,8 @@ impl<'c> ScriptBody<'c> {
             registers: [0; REGISTER_COUNT],
             halfway: false,
         };
-        let post = settle(code, thread, &mut state);
+        let mut post = Post { ask: None, line: 0 };
+        settle(code, thread, &mut state, &mut post);
         ScriptBody {
             code,
             thread,
@@ -77,6 +78,6 @@ impl Body for ScriptBody<'_> {
 
     fn answer(&mut self, value: i64) {
         take_answer(self.code, self.thread, &mut self.state, value);
-        self.post = settle(self.code, self.thread, &mut self.state);
+        settle(self.code, self.thread, &mut self.state, &mut self.post);
     }
 }

@@ -10,8 +10,24 @@ use script_tree::{Expr, Op};
 /// A thread's numbers.
 pub(crate) type Registers = [i64; REGISTER_COUNT];
 
-/// The value of an expression, or the first fault from the left.
+/// The value of an expression, or the first fault from the left. A number or a register, which most
+/// expressions are, takes no call.
+#[cycle(value)]
+#[inline(always)]
 pub(crate) fn value_of(expr: &Expr, registers: &Registers) -> Result<i64, FaultKind>
+    requires { expression_fits (expression expr.now) ≡ true }
+    ensures { result ≡ value_of registers.now (expression expr.now) }
+{
+    match expr {
+        Expr::Number(n) => Ok(*n),
+        Expr::Reg(reg) => Ok(registers[*reg as usize]),
+        Expr::Not(_) | Expr::Minus(_) | Expr::Two(..) => value_of_whole(expr, registers),
+    }
+}
+
+/// The same of any expression.
+#[cycle(value)]
+fn value_of_whole(expr: &Expr, registers: &Registers) -> Result<i64, FaultKind>
     requires { expression_fits (expression expr.now) ≡ true }
     ensures { result ≡ value_of registers.now (expression expr.now) }
 {

@@ -13,10 +13,10 @@ use Rattle.script_body.proofs.body.ScriptBody.new.Goals as goal
 pub returns-clause-named : goal.returns-clause-named
 returns-clause-named c script deal of sound same answers =
     let code = listing_of (listing c.args.code.now) c.args.thread in
-    let here = spot_of c.settle-post.new.state in
+    let here = spot_of c.settle.new.state in
     let below : c.args.thread < length script.threads = omega (arith, of.threads, c.requires) in
-    let e : pending_at code here c.settle-post.result answers
+    let e : pending_at code here c.settle.new.post answers
     ≡ pending script c.args.thread answers =
-    settled_pending code first_spot here c.settle-post.result c.settle-post.ensures answers
+    settled_pending code first_spot here c.settle.new.post c.settle.ensures answers
     ∙ of.posts c.args.thread below answers in
     subst (IsPostOf deal) (sym e) (pending_named script deal sound same c.args.thread below answers)
