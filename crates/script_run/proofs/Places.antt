@@ -66,14 +66,25 @@ module _ {P : Type 0} {B : Type 0} {E : Type 0} (pending : B → Pending) (plan 
 
 -- what is promised of a run by threads, in one
 pub threads-ran : {P : Type 0} {B : Type 0} {E : Type 0} (pending : B → Pending) (plan : P → Plan)
-    (test : Test P B) (made : Result Played E)
-    → IfOk made (λ p. IsPlayed (plan test.policy) test.deal (bodies_in pending plan test) test.limit
+    (test : Test P B) (limit : ℕ) (made : Result Played E) → limit ≡ test.limit
+    → IfOk made (λ p. IsPlayed (plan test.policy) test.deal (bodies_in pending plan test) limit
     p.events p.outcome)
     → ((order points : List ℕ) → plan test.policy ≡ ByPoints order points → IfOk made (λ p.
-    IsRun (run test.deal (bodies_in pending plan test) order points test.limit) p.events p.outcome))
-    → ((order : List ℕ) (events : List Moment) → plan test.policy ≡ ByEvents order events
-    → IfOk made (λ p. IsRun (directed_run test.deal (bodies_in pending plan test) order events
-    test.limit) p.events p.outcome)) → IfOk made (IsRunOf pending plan test)
-threads-ran pending plan test (Ok ended) played by_points by_events =
-    record { played = played; by_points = by_points; by_events = by_events }
-threads-ran pending plan test (Err e) played by_points by_events = tt
+    IsRun (run test.deal (bodies_in pending plan test) order points limit) p.events p.outcome))
+    → ((order : List ℕ) (moments : List Moment) → plan test.policy ≡ ByEvents order moments
+    → IfOk made (λ p. IsRun (directed_run test.deal (bodies_in pending plan test) order moments
+    limit) p.events p.outcome)) → IfOk made (IsRunOf pending plan test)
+threads-ran pending plan test limit (Ok ended) same played by_points by_moments =
+    let bodies = bodies_in pending plan test in
+    record {
+      played = subst (λ (most : ℕ). IsPlayed (plan test.policy) test.deal bodies most ended.events
+          ended.outcome) same played;
+      by_points =
+          λ order points is. subst (λ (most : ℕ). IsRun (run test.deal bodies order points most)
+          ended.events ended.outcome) same (by_points order points is);
+      by_moments =
+          λ order moments is. subst (λ (most : ℕ).
+          IsRun (directed_run test.deal bodies order moments most) ended.events ended.outcome) same
+          (by_moments order moments is);
+    }
+threads-ran pending plan test limit (Err e) same played by_points by_moments = tt

@@ -17,7 +17,7 @@ use Rattle.script_body.specs.declared.body.ScriptBody.{ScriptBody}
 use Rattle.worker_run.specs.Run.{Run, run, directed_run}
 use Rattle.worker_run.specs.Played.{IsPlayed, IsRun}
 use Rattle.worker_run.specs.declared.batch.Test.{Test}
-use Rattle.script_run.specs.Tests.{Tries, IsRunByPoints, IsRunByEvents}
+use Rattle.script_run.specs.Tests.{Tries, IsRunByPoints, IsRunByMoments}
 
 -- ---- tests
 
@@ -46,29 +46,29 @@ points-made deal own bodies order points limit (Ok t) given p d l b same posts =
 points-made deal own bodies order points limit (Err e) given p d l b same posts = tt
 
 -- the same of an order and moments
-pub events-made : {E : Type 0} (deal own : Deal) (bodies : List Pending) (order : List ℕ)
-    (events : List Moment) (limit : ℕ) (made : Result (Test EventsKept ScriptBody) E)
+pub moments-made : {E : Type 0} (deal own : Deal) (bodies : List Pending) (order : List ℕ)
+    (moments : List Moment) (limit : ℕ) (made : Result (Test EventsKept ScriptBody) E)
     (given : Vec ScriptBody Global)
-    → IfOk made (λ t. events_plan t.policy ≡ ByEvents order events)
+    → IfOk made (λ t. events_plan t.policy ≡ ByEvents order moments)
     → IfOk made (λ t. t.deal ≡ own) → IfOk made (λ t. t.limit ≡ limit)
     → IfOk made (λ t. t.bodies ≡ given) → own ≡ deal → map pending_of_body given.items ≡ bodies
     → IfOk made (Tries pending_of_body events_plan
-    (IsRunByEvents deal bodies order events limit))
-events-made deal own bodies order events limit (Ok t) given p d l b same posts = λ played ran.
+    (IsRunByMoments deal bodies order moments limit))
+moments-made deal own bodies order moments limit (Ok t) given p d l b same posts = λ played ran.
     let dealt = d ∙ same in
     let posted : map pending_of_body t.bodies.items ≡ bodies =
     ap (λ (v : Vec ScriptBody Global). map pending_of_body v.items) b ∙ posts in
-    let ran_by = ran.by_events order events p in
+    let ran_by = ran.by_moments order moments p in
     let R : Option Run → Type 0 = λ r. IsRun r played.events played.outcome in
-    let whole : directed_run t.deal (map pending_of_body t.bodies.items) order events t.limit
-    ≡ directed_run deal bodies order events limit =
-    λ i. directed_run (dealt i) (posted i) order events (l i) in
+    let whole : directed_run t.deal (map pending_of_body t.bodies.items) order moments t.limit
+    ≡ directed_run deal bodies order moments limit =
+    λ i. directed_run (dealt i) (posted i) order moments (l i) in
     let steps : IsPlayed (events_plan t.policy) t.deal (map pending_of_body t.bodies.items) t.limit
     played.events played.outcome
-    ≡ IsPlayed (ByEvents order events) deal bodies limit played.events played.outcome =
+    ≡ IsPlayed (ByEvents order moments) deal bodies limit played.events played.outcome =
     λ i. IsPlayed (p i) (dealt i) (posted i) (l i) played.events played.outcome in
     record { directed = subst R whole ran_by; played = transport steps ran.played }
-events-made deal own bodies order events limit (Err e) given p d l b same posts = tt
+moments-made deal own bodies order moments limit (Err e) given p d l b same posts = tt
 
 -- ---- whole runs
 

@@ -22,6 +22,6 @@ module _ (deal : Deal) (bodies : List Pending) (order : List ℕ) where
     pub played : IsPlayed (ByPoints order points) deal bodies limit ended.events ended.outcome
 
   -- the directed run of the order and the moments over the bodies
-  pub record IsRunByEvents (events : List Moment) (limit : ℕ) (ended : Played) : Type 0 where
-    pub directed : IsRun (directed_run deal bodies order events limit) ended.events ended.outcome
-    pub played : IsPlayed (ByEvents order events) deal bodies limit ended.events ended.outcome
+  pub record IsRunByMoments (moments : List Moment) (limit : ℕ) (ended : Played) : Type 0 where
+    pub directed : IsRun (directed_run deal bodies order moments limit) ended.events ended.outcome
+    pub played : IsPlayed (ByEvents order moments) deal bodies limit ended.events ended.outcome

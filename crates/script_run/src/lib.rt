@@ -5,10 +5,10 @@
 //!
 //! - A script's run by an order and points is the run of its threads, and by an order and moments
 //!   the directed run, whoever serves: `ReadyScript::run_by_points`: `run`, `played`, `few`;
-//!   `ReadyScript::run_by_events`: `directed`, `few` (`run`, `directed_run`, `AreOf`); said of its
+//!   `ReadyScript::run_by_moments`: `directed`, `few` (`run`, `directed_run`, `AreOf`); said of its
 //!   code in both: `code` (`bodies_of_code`).
 //! - So are the runs of its tests: `ReadyScript::test_by_points`: `run`, `asked`;
-//!   `ReadyScript::test_by_events`: `run`, `asked` (`Tries`, `IsRunByPoints`, `IsRunByEvents`).
+//!   `ReadyScript::test_by_moments`: `run`, `asked` (`Tries`, `IsRunByPoints`, `IsRunByMoments`).
 //! - The runs of a batch are taken in their order, each once, as the run that its place has, up to
 //!   the first that comes to an answer, whoever serves: `run_batch`, its clause (`Decides`), over
 //!   what is asked of `Batch::test`: `asked`, `run`; `Batch::take`, its clause.

@@ -3,9 +3,9 @@
 ghost use Rattle.script_tree.specs.ScriptText.{ScriptText};
 ghost use Rattle.script_code.specs.Listing.{listing};
 ghost use Rattle.script_body.specs.Bodies.{AreOf};
-ghost use Rattle.pct_ask.specs.declared.limits.TheConstants.{MAX_POINTS, MAX_STEPS};
+ghost use Rattle.pct_ask.specs.declared.limits.TheConstants.{MAX_POINTS};
 
-use pct_ask::Deal;
+use pct_ask::{Deal, Limit};
 use policy_pick::{DirectedPolicy, Moment, Pct};
 use script_body::{ScriptBody, bodies_of};
 use script_code::Code;
@@ -27,7 +27,7 @@ impl<'a> ReadyScript<'a> {
     ghost use Rattle.script_body.specs.BodyPosts.{pending_of_body};
     ghost use Rattle.worker_run.specs.Tests.{IsTest};
     ghost use Rattle.script_run.specs.Ready.{bodies_of_code};
-    ghost use Rattle.script_run.specs.Tests.{Tries, IsRunByPoints, IsRunByEvents};
+    ghost use Rattle.script_run.specs.Tests.{Tries, IsRunByPoints, IsRunByMoments};
 
     /// The test of an order of the threads, the highest first, and change points, which are numbers
     /// of steps from 1.
@@ -36,13 +36,11 @@ impl<'a> ReadyScript<'a> {
         alloc: Global,
         order: &[u32],
         points: &[u32],
-        limit: u32,
+        limit: Limit,
     ) -> Result<Test<Pct, ScriptBody<'a>>, NoMemory>
         requires order { IsOrder order.now }
         requires whole { length order.now ≡ self.now.deal.now.threads }
         requires few_points { length points.now ≤ MAX_POINTS }
-        requires some_steps { 1 ≤ limit }
-        requires few_steps { limit ≤ MAX_STEPS }
         ensures asked { IfOk result (λ test. IsTest pending_of_body points_plan PointsStand test) }
         // Its run is that of the order and the points.
         ensures run { IfOk result (Tries pending_of_body points_plan
@@ -56,26 +54,24 @@ impl<'a> ReadyScript<'a> {
 
     /// The same with moments in the place of change points: a thread is lowered after its own step
     /// of a number, from 1.
-    pub fn test_by_events(
+    pub fn test_by_moments(
         &self,
         alloc: Global,
         order: &[u32],
-        events: &[Moment],
-        limit: u32,
+        moments: &[Moment],
+        limit: Limit,
     ) -> Result<Test<DirectedPolicy, ScriptBody<'a>>, NoMemory>
         requires order { IsOrder order.now }
         requires whole { length order.now ≡ self.now.deal.now.threads }
-        requires few_events { length events.now ≤ MAX_POINTS }
-        requires some_steps { 1 ≤ limit }
-        requires few_steps { limit ≤ MAX_STEPS }
+        requires few_moments { length moments.now ≤ MAX_POINTS }
         ensures asked { IfOk result (λ test. IsTest pending_of_body events_plan EventsStand test) }
         // Its run is the directed run of the order and the moments.
         ensures run { IfOk result (Tries pending_of_body events_plan
-            (IsRunByEvents self.now.deal.now (bodies_of_code (listing self.now.code.now))
-            order.now events.now limit)) }
+            (IsRunByMoments self.now.deal.now (bodies_of_code (listing self.now.code.now))
+            order.now moments.now limit)) }
     {
         let bodies = bodies_of(alloc, self.code)?;
         let own = self.deal.copy(alloc)?;
-        Test::by_events(alloc, own, order, events, limit, bodies)
+        Test::by_moments(alloc, own, order, moments, limit, bodies)
     }
 }

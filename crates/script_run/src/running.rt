@@ -12,10 +12,10 @@ ghost use Rattle.worker_run.specs.Run.{run, directed_run};
 ghost use Rattle.worker_run.specs.Played.{IsPlayed};
 ghost use Rattle.worker_run.specs.Tests.{IsTest, IsRunOf};
 ghost use Rattle.script_run.specs.Ready.{bodies_of_code};
-ghost use Rattle.pct_ask.specs.declared.limits.TheConstants.{MAX_POINTS, MAX_STEPS};
+ghost use Rattle.pct_ask.specs.declared.limits.TheConstants.{MAX_POINTS};
 
 use crate::ready::ReadyScript;
-use pct_ask::Body;
+use pct_ask::{Body, Limit};
 use pct_outside::Gate;
 use policy_pick::{Moment, Policy};
 use std::alloc::{AllocError as NoMemory, Global};
@@ -42,7 +42,7 @@ fn run_test<R: Threads + Wait + Sync, P: Policy, B: Body, G: Gate>(
                 limit,
                 bodies,
             } = test;
-            run_threads(rt, alloc, deal, policy, limit, bodies, gate)
+            run_threads(rt, alloc, deal, policy, limit.steps(), bodies, gate)
         }
         Serve::Caller => {
             let mut serving = Serving::new(alloc, serve);
@@ -61,15 +61,13 @@ impl ReadyScript<'_> {
         alloc: Global,
         order: &[u32],
         points: &[u32],
-        limit: u32,
+        limit: Limit,
         serve: Serve,
         gate: &G,
     ) -> Result<WholeRun, NoMemory>
         requires order { IsOrder order.now }
         requires whole { length order.now ≡ self.now.deal.now.threads }
         requires few_points { length points.now ≤ MAX_POINTS }
-        requires some_steps { 1 ≤ limit }
-        requires few_steps { limit ≤ MAX_STEPS }
         ensures code { IfOk result (λ whole. run self.now.deal.now
             (bodies_of_code (listing self.now.code.now)) order.now points.now limit
             ≡ Some (whole.events, whole.verdict)) }
@@ -91,31 +89,29 @@ impl ReadyScript<'_> {
 
     /// The same with moments in the place of change points: a thread is lowered after its own step
     /// of a number, from 1.
-    pub fn run_by_events<R: Threads + Wait + Sync, G: Gate>(
+    pub fn run_by_moments<R: Threads + Wait + Sync, G: Gate>(
         &self,
         rt: &R,
         alloc: Global,
         order: &[u32],
-        events: &[Moment],
-        limit: u32,
+        moments: &[Moment],
+        limit: Limit,
         serve: Serve,
         gate: &G,
     ) -> Result<WholeRun, NoMemory>
         requires order { IsOrder order.now }
         requires whole { length order.now ≡ self.now.deal.now.threads }
-        requires few_events { length events.now ≤ MAX_POINTS }
-        requires some_steps { 1 ≤ limit }
-        requires few_steps { limit ≤ MAX_STEPS }
+        requires few_moments { length moments.now ≤ MAX_POINTS }
         ensures code { IfOk result (λ whole. directed_run self.now.deal.now
-            (bodies_of_code (listing self.now.code.now)) order.now events.now limit
+            (bodies_of_code (listing self.now.code.now)) order.now moments.now limit
             ≡ Some (whole.events, whole.verdict)) }
         ensures directed { (script : ScriptText)
             → AreOf script (listing self.now.code.now) self.now.deal.now
             → IfOk result (λ whole. directed_run self.now.deal.now (bodies_of script) order.now
-            events.now limit ≡ Some (whole.events, whole.verdict)) }
+            moments.now limit ≡ Some (whole.events, whole.verdict)) }
         ensures few { IfOk result (λ whole. length whole.events ≤ limit) }
     {
-        let test = self.test_by_events(alloc, order, events, limit)?;
+        let test = self.test_by_moments(alloc, order, moments, limit)?;
         let played = run_test(rt, alloc, test, serve, gate)?;
         Ok(played.into_whole())
     }

@@ -11,7 +11,7 @@ mod meetings;
 use crate::deals::{deal_of, ordered};
 use crate::samples::samples;
 use crate::steps::{FAILED, IN_ORDER, LOST_UPDATE};
-use pct_ask::{Event, Outcome, Verdict};
+use pct_ask::{Event, Limit, Outcome, Verdict};
 use pct_outside::{Gate, OpenGate};
 use policy_pick::{Listed, Moment, Pct, Policy};
 use std::alloc::{AllocError as NoMemory, Global};
@@ -22,7 +22,7 @@ use std::test::Fail;
 use std::thread::Threads;
 use turn_book::TurnBook;
 use turn_lock::TurnLock;
-use worker_run::{Played, run_by_events, run_by_points, run_here, run_on, run_threads};
+use worker_run::{Played, run_by_moments, run_by_points, run_here, run_on, run_threads};
 
 const FIRST_STEP: [Moment; 1] = [Moment {
     thread: 0,
@@ -114,7 +114,7 @@ fn loses_an_update(rt: HostRuntime) -> Result<(), Fail> {
         deal,
         &[0, 1, 2],
         &[1],
-        10_000,
+        Limit::new(10_000),
         bodies,
         &gate,
     )?;
@@ -129,13 +129,13 @@ fn loses_an_update_by_a_moment(rt: HostRuntime) -> Result<(), Fail> {
     let bodies = samples(rt.alloc())?;
     let deal = deal_of(rt.alloc(), 3)?;
     let gate = OpenGate::new();
-    let whole = run_by_events(
+    let whole = run_by_moments(
         &rt,
         rt.alloc(),
         deal,
         &[0, 1, 2],
         &FIRST_STEP,
-        10_000,
+        Limit::new(10_000),
         bodies,
         &gate,
     )?;

@@ -143,7 +143,7 @@ module _ {P : Type 0} {policy : Ghosts P} {B : Type 0} (pending : B → Pending)
         by_points =
             λ order points e. points-run test.deal bodies order points test.limit played.events
             played.outcome (subst S e asked.speaks) (subst W e whole);
-        by_events =
+        by_moments =
             λ order moments e. events-run test.deal bodies order moments test.limit played.events
             played.outcome (subst S e asked.speaks) (subst W e whole);
       }

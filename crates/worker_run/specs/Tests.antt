@@ -1,5 +1,5 @@
 -- What is asked of a test that is run with others, and what is promised of its run (this project).
-use Rattle.std.specs.Prelude.{◌≡◌, ◌<◌, ◌≤◌, ℕ, List, [], length, map, Some, slice_get}
+use Rattle.std.specs.Prelude.{◌≡◌, ◌<◌, ℕ, List, [], length, map, Some, slice_get}
 use Rattle.pct_ask.specs.Objects.{sizes_of_deal}
 use Rattle.pct_ask.specs.Bodies.{Pending, AreInRange}
 use Rattle.rank_now.specs.declared.moment.Moment.{Moment}
@@ -17,18 +17,15 @@ use Rattle.worker_run.specs.Batch.{IsThreadTold}
 use Rattle.worker_run.specs.declared.batch.Test.{Test}
 use Rattle.worker_run.specs.declared.batch.Share.{Share}
 use Rattle.worker_run.specs.declared.played.Played.{Played}
-use Rattle.pct_ask.specs.declared.limits.TheConstants.{MAX_STEPS}
 
 module _ {P : Type 0} {B : Type 0} (pending : B → Pending) (plan : P → Plan) where
   -- what its bodies post
   abbrev pub bodies_in : Test P B → List Pending
   bodies_in test = map pending test.bodies.items
 
-  -- A limit that there may be, a policy that speaks of the test's threads and has seen no step yet,
-  -- and a body for each thread, which names only what there is.
+  -- a policy that speaks of the test's threads and has seen no step yet, and a body for each
+  -- thread, which names only what there is
   pub record IsTest (stands_for : P → List ℕ → Type 0) (test : Test P B) : Type 0 where
-    pub some_steps : 1 ≤ test.limit
-    pub few_steps : test.limit ≤ MAX_STEPS
     pub stands : stands_for test.policy []
     pub speaks : SpeaksOf (plan test.policy) test.deal.threads
     pub bodies : length test.bodies.items ≡ test.deal.threads
@@ -46,7 +43,7 @@ module _ {P : Type 0} {B : Type 0} (pending : B → Pending) (plan : P → Plan)
         ended.events ended.outcome
     pub by_points : (order points : List ℕ) → plan test.policy ≡ ByPoints order points
         → IsRun (run test.deal (bodies_in test) order points test.limit) ended.events ended.outcome
-    pub by_events : (order : List ℕ) (moments : List Moment)
+    pub by_moments : (order : List ℕ) (moments : List Moment)
         → plan test.policy ≡ ByEvents order moments
         → IsRun (directed_run test.deal (bodies_in test) order moments test.limit)
         ended.events ended.outcome

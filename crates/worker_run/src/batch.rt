@@ -1,6 +1,6 @@
 //! Tests that run at once, each under a lock of its own, and who serves what of them.
 use crate::runner::Runner;
-use pct_ask::{Body, Deal};
+use pct_ask::{Body, Deal, Limit};
 use policy_pick::Policy;
 use std::snapshot::Snapshot;
 use turn_lock::{Seat, TurnLock};
@@ -11,7 +11,7 @@ use turn_lock::{Seat, TurnLock};
 pub struct Test<P: Policy, B: Body> {
     pub deal: Deal,
     pub policy: P,
-    pub limit: u32,
+    pub limit: Limit,
     pub bodies: Vec<B>,
 }
 

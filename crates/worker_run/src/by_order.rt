@@ -9,11 +9,11 @@ ghost use Rattle.rank_now.specs.Order.{IsOrder};
 ghost use Rattle.policy_pick.specs.Plan.{ByPoints, ByEvents};
 ghost use Rattle.worker_run.specs.Run.{run, directed_run};
 ghost use Rattle.worker_run.specs.Played.{IsPlayed};
-ghost use Rattle.pct_ask.specs.declared.limits.TheConstants.{MAX_POINTS, MAX_STEPS};
+ghost use Rattle.pct_ask.specs.declared.limits.TheConstants.{MAX_POINTS};
 
 use crate::played::Played;
 use crate::run::run_threads;
-use pct_ask::{Body, Deal, EventList, Outcome, Verdict};
+use pct_ask::{Body, Deal, EventList, Limit, Outcome, Verdict};
 use pct_outside::Gate;
 use policy_pick::{DirectedPolicy, Pct};
 use rank_now::Moment;
@@ -75,15 +75,13 @@ pub fn run_by_points<R: Threads + Wait + Sync, B: Body, G: Gate>(
     deal: Deal,
     order: &[u32],
     points: &[u32],
-    limit: u32,
+    limit: Limit,
     bodies: Vec<B>,
     gate: &G,
 ) -> Result<WholeRun, NoMemory>
     requires order { IsOrder order.now }
     requires whole { length order.now ≡ deal.threads }
     requires few_points { length points.now ≤ MAX_POINTS }
-    requires some_steps { 1 ≤ limit }
-    requires few_steps { limit ≤ MAX_STEPS }
     requires bodies { length bodies.items ≡ deal.threads }
     requires in_range { AreInRange (sizes_of_deal deal) (map B.pending bodies.items) }
     ensures run { IfOk result (λ whole.
@@ -94,27 +92,25 @@ pub fn run_by_points<R: Threads + Wait + Sync, B: Body, G: Gate>(
         (map B.pending bodies.items) limit whole.events (Outcome.Verdict whole.verdict)) }
 {
     let policy = Pct::of_order(alloc, order, points)?;
-    let played = run_threads(rt, alloc, deal, policy, limit, bodies, gate)?;
+    let played = run_threads(rt, alloc, deal, policy, limit.steps(), bodies, gate)?;
     Ok(played.into_whole())
 }
 
 /// The same with moments in the place of change points: a thread is lowered after its own step of a
 /// number, from 1.
-pub fn run_by_events<R: Threads + Wait + Sync, B: Body, G: Gate>(
+pub fn run_by_moments<R: Threads + Wait + Sync, B: Body, G: Gate>(
     rt: &R,
     alloc: Global,
     deal: Deal,
     order: &[u32],
     moments: &[Moment],
-    limit: u32,
+    limit: Limit,
     bodies: Vec<B>,
     gate: &G,
 ) -> Result<WholeRun, NoMemory>
     requires order { IsOrder order.now }
     requires whole { length order.now ≡ deal.threads }
     requires few_moments { length moments.now ≤ MAX_POINTS }
-    requires some_steps { 1 ≤ limit }
-    requires few_steps { limit ≤ MAX_STEPS }
     requires bodies { length bodies.items ≡ deal.threads }
     requires in_range { AreInRange (sizes_of_deal deal) (map B.pending bodies.items) }
     ensures directed { IfOk result (λ whole.
@@ -125,6 +121,6 @@ pub fn run_by_events<R: Threads + Wait + Sync, B: Body, G: Gate>(
         (map B.pending bodies.items) limit whole.events (Outcome.Verdict whole.verdict)) }
 {
     let policy = DirectedPolicy::of_order(alloc, order, moments)?;
-    let played = run_threads(rt, alloc, deal, policy, limit, bodies, gate)?;
+    let played = run_threads(rt, alloc, deal, policy, limit.steps(), bodies, gate)?;
     Ok(played.into_whole())
 }

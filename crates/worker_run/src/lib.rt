@@ -19,10 +19,11 @@
 //!   order and points they are the run, by an order and moments the directed run: `run_threads`:
 //!   `played`, `run`, `directed`; `run_here`: `played`, `run`, `directed` (`IsPlayed`, `run`,
 //!   `next_thread`, `rank`, `cut_at`); with the verdict `run_by_points`: `run`, `played`;
-//!   `run_by_events`: `directed`, `played`; `Played::into_whole`: `events`, `verdict`.
+//!   `run_by_moments`: `directed`, `played`; `Played::into_whole`: `events`, `verdict`; its number
+//!   of steps `step_count`, its clause.
 //! - `run_many` answers as many runs as tests, each what `run_threads` promises of its test:
 //!   `run_many`: `runs` (`Each`, `IsRunOf`); a test is made by `Test::by_points` and
-//!   `Test::by_events`, a verdict given by `Played::verdict`.
+//!   `Test::by_moments`, a verdict given by `Played::verdict`.
 //! - Batch after batch, in memory that is used again: by workers `run_many_by`: `runs`, `caller`;
 //!   by the caller `run_by_caller`: `run`, `by`. Neither depends on what `Serving` holds, of which
 //!   clauses say only who serves: `Serving::new`; `Serving::is_by_caller`;
@@ -51,9 +52,9 @@ mod workers;
 
 pub use batch::Test;
 pub use by_caller::run_by_caller;
-pub use by_order::{WholeRun, run_by_events, run_by_points};
+pub use by_order::{WholeRun, run_by_moments, run_by_points};
 pub use lent::run_on;
 pub use many::{RUNS_AT_ONCE, run_many, run_many_by};
-pub use played::Played;
+pub use played::{Played, step_count};
 pub use run::{run_here, run_threads};
 pub use serving::{Serve, Serving};

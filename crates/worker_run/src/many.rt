@@ -5,6 +5,7 @@ ghost use Rattle.worker_run.specs.Batch.{Each, IsSeatOf};
 ghost use Rattle.worker_run.specs.Batches.{AreShares};
 ghost use Rattle.worker_run.specs.Tests.{IsTest, AreTests, IsRunOf, AllTold, IsLockOf};
 ghost use Rattle.worker_run.specs.Tests.{IsFirstShare};
+ghost use Rattle.pct_ask.specs.declared.limits.TheConstants.{MAX_THREADS};
 
 use crate::batch::{RunningTest, Share, Test};
 use crate::lent::runners_of;
@@ -93,7 +94,7 @@ fn running_tests_of<'l, P: Policy, B: Body>(
 /// The most threads that a test has.
 fn most_threads<P: Policy, B: Body>(running: &[RunningTest<P, B>], shares: &[Share<P, B>]) -> u32
     requires shares { AreShares B.pending running.now shares.now }
-    ensures { result ≤ 64 }
+    ensures { result ≤ MAX_THREADS }
 {
     let mut most = 0;
     for index in 0..running.len() {

@@ -6,10 +6,10 @@ ghost use Rattle.rank_now.specs.Order.{IsOrder};
 ghost use Rattle.policy_pick.specs.Plan.{ByPoints, ByEvents};
 ghost use Rattle.policy_pick.specs.Kept.{points_plan, PointsStand, events_plan, EventsStand};
 ghost use Rattle.worker_run.specs.Tests.{IsTest};
-ghost use Rattle.pct_ask.specs.declared.limits.TheConstants.{MAX_POINTS, MAX_STEPS};
+ghost use Rattle.pct_ask.specs.declared.limits.TheConstants.{MAX_POINTS};
 
 use crate::batch::Test;
-use pct_ask::{Body, Deal};
+use pct_ask::{Body, Deal, Limit};
 use policy_pick::{DirectedPolicy, Pct};
 use rank_now::Moment;
 use std::alloc::{AllocError as NoMemory, Global};
@@ -21,14 +21,12 @@ impl<B: Body> Test<Pct, B> {
         deal: Deal,
         order: &[u32],
         points: &[u32],
-        limit: u32,
+        limit: Limit,
         bodies: Vec<B>,
     ) -> Result<Test<Pct, B>, NoMemory>
         requires order { IsOrder order.now }
         requires whole { length order.now ≡ deal.threads }
         requires few_points { length points.now ≤ MAX_POINTS }
-        requires some_steps { 1 ≤ limit }
-        requires few_steps { limit ≤ MAX_STEPS }
         requires bodies { length bodies.items ≡ deal.threads }
         requires in_range { AreInRange (sizes_of_deal deal) (map B.pending bodies.items) }
         ensures asked { IfOk result (λ test. IsTest B.pending points_plan PointsStand test) }
@@ -50,19 +48,17 @@ impl<B: Body> Test<Pct, B> {
 
 impl<B: Body> Test<DirectedPolicy, B> {
     /// A test that is run under an order of its threads and moments.
-    pub fn by_events(
+    pub fn by_moments(
         alloc: Global,
         deal: Deal,
         order: &[u32],
         moments: &[Moment],
-        limit: u32,
+        limit: Limit,
         bodies: Vec<B>,
     ) -> Result<Test<DirectedPolicy, B>, NoMemory>
         requires order { IsOrder order.now }
         requires whole { length order.now ≡ deal.threads }
         requires few_moments { length moments.now ≤ MAX_POINTS }
-        requires some_steps { 1 ≤ limit }
-        requires few_steps { limit ≤ MAX_STEPS }
         requires bodies { length bodies.items ≡ deal.threads }
         requires in_range { AreInRange (sizes_of_deal deal) (map B.pending bodies.items) }
         ensures asked { IfOk result (λ test. IsTest B.pending events_plan EventsStand test) }

@@ -15,7 +15,7 @@ ghost use Rattle.pct_ask.specs.declared.limits.TheConstants.{MAX_STEPS};
 use crate::alone::serve_alone;
 use crate::lent::{run_on, runners_of};
 use crate::played::Played;
-use pct_ask::{Body, Deal, EventList, Sequence};
+use pct_ask::{Body, Deal, EventList, Limit, Sequence};
 use pct_outside::Gate;
 use policy_pick::Policy;
 use std::alloc::{AllocError as NoMemory, Global};
@@ -24,24 +24,38 @@ use std::thread::Threads;
 use turn_book::TurnBook;
 use turn_lock::{Seat, TurnLock};
 
+/// The book of a run that has at most so many steps, before the first of them. They stand in the
+/// memory of a trace that nobody needs any more.
+fn book_of<P: Policy>(
+    alloc: Global,
+    deal: Deal,
+    policy: P,
+    limit: Limit,
+    trace: EventList,
+) -> Result<TurnBook<P>, NoMemory>
+    requires stands { P.stands policy [] }
+    requires speaks { SpeaksOf (P.plan policy) deal.threads }
+    ensures made { IfOk result (λ book. book ≡ new_book deal limit (P.plan policy)) }
+{
+    TurnBook::new_in(alloc, deal, policy, limit.steps(), trace)
+}
+
 /// A lock for a run, and its first seat. The run's steps stand in the memory of a trace that nobody
 /// needs any more.
 pub fn new_lock<P: Policy>(
     alloc: Global,
     deal: Deal,
     policy: P,
-    limit: u32,
+    limit: Limit,
     trace: EventList,
 ) -> Result<(TurnLock<P>, Seat<P>), NoMemory>
-    requires some_steps { 1 ≤ limit }
-    requires few_steps { limit ≤ MAX_STEPS }
     requires stands { P.stands policy [] }
     requires speaks { SpeaksOf (P.plan policy) deal.threads }
     ensures made { IfOk result (λ r. first_book r.0 ≡ new_book deal limit (P.plan policy)) }
     ensures of { IfOk result (λ r. HasSeat r.0 r.1) }
     ensures view { IfOk result (λ r. view r.1 ≡ first_view (new_book deal limit (P.plan policy))) }
 {
-    let book = TurnBook::new_in(alloc, deal, policy, limit, trace)?;
+    let book = book_of(alloc, deal, policy, limit, trace)?;
     TurnLock::new(alloc, book)
 }
 
@@ -97,6 +111,7 @@ pub fn run_here<R: Wait, P: Policy, B: Body, G: Gate>(
         → P.plan policy ≡ ByEvents order moments → IfOk result (λ played. IsRun (directed_run deal
         (map B.pending bodies.items) order moments limit) played.events played.outcome) }
 {
+    let limit = Limit::new(limit);
     let trace = Sequence::new(alloc);
     run_here_in(rt, alloc, deal, policy, limit, bodies, trace, gate)
 }
@@ -107,13 +122,11 @@ pub fn run_here_in<R: Wait, P: Policy, B: Body, G: Gate>(
     alloc: Global,
     deal: Deal,
     policy: P,
-    limit: u32,
+    limit: Limit,
     bodies: Vec<B>,
     trace: EventList,
     gate: &G,
 ) -> Result<Played, NoMemory>
-    requires some_steps { 1 ≤ limit }
-    requires few_steps { limit ≤ MAX_STEPS }
     requires stands { P.stands policy [] }
     requires speaks { SpeaksOf (P.plan policy) deal.threads }
     requires bodies { length bodies.items ≡ deal.threads }
@@ -128,7 +141,7 @@ pub fn run_here_in<R: Wait, P: Policy, B: Body, G: Gate>(
         (map B.pending bodies.items) order moments limit) played.events played.outcome) }
 {
     let mut runners = runners_of(alloc, bodies)?;
-    let mut book = TurnBook::new_in(alloc, deal, policy, limit, trace)?; // served with no lock
+    let mut book = book_of(alloc, deal, policy, limit, trace)?; // served with no lock
     serve_alone(rt, &mut book, runners.as_mut_slice(), gate);
     Ok(played_of(book))
 }
@@ -158,6 +171,7 @@ pub fn run_threads<R: Threads + Wait + Sync, P: Policy, B: Body, G: Gate>(
         → P.plan policy ≡ ByEvents order moments → IfOk result (λ played. IsRun (directed_run deal
         (map B.pending bodies.items) order moments limit) played.events played.outcome) }
 {
+    let limit = Limit::new(limit);
     let (lock, mut seat) = new_lock(alloc, deal, policy, limit, Sequence::new(alloc))?;
     run_on(rt, alloc, &lock, &mut seat, bodies, gate)?;
     Ok(finish(lock, seat))

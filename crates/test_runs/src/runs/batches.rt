@@ -7,7 +7,7 @@ ghost use Rattle.test_runs.specs.OneStep.{once_pending, is_deed};
 
 use crate::deals::ordered;
 use crate::steps::ADD;
-use pct_ask::{Ask, Body, Event, Outcome, Post, Verdict};
+use pct_ask::{Ask, Body, Event, Limit, Outcome, Post, Verdict};
 use pct_outside::OpenGate;
 use policy_pick::Pct;
 use std::alloc::{AllocError as NoMemory, Global};
@@ -60,12 +60,10 @@ fn once_bodies(alloc: Global, asks: &[Ask]) -> Result<Vec<Once>, NoMemory>
 }
 
 /// A test of threads of one step each. The first goes first.
-pub(super) fn once_test(alloc: Global, asks: &[Ask], limit: u32) -> Result<Test<Pct, Once>, Fail>
+pub(super) fn once_test(alloc: Global, asks: &[Ask], limit: Limit) -> Result<Test<Pct, Once>, Fail>
     requires some { 1 ≤ length asks.now }
     requires few { length asks.now ≤ 4 }
     requires deeds { list_all is_deed asks.now ≡ true }
-    requires some_steps { 1 ≤ limit }
-    requires few_steps { limit ≤ 100000 }
     ensures { IfOk result (λ test.
         IsTest (λ b. once_pending b.ask 7 b.asked) points_plan PointsStand test) }
 {
@@ -85,12 +83,13 @@ fn one_of_five(alloc: Global, place: usize) -> Result<Test<Pct, Once>, Fail>
     ensures { IfOk result (λ test.
         IsTest (λ b. once_pending b.ask 7 b.asked) points_plan PointsStand test) }
 {
+    let limit = Limit::new(10_000);
     match place {
-        0 => once_test(alloc, &[ADD, ADD], 10_000),
-        1 => once_test(alloc, &[DOWN], 10_000),
-        2 => once_test(alloc, &[ADD, ADD, ADD], 2),
-        3 => once_test(alloc, &[ADD, FAIL, ADD], 10_000),
-        _ => once_test(alloc, &[ADD, ADD, ADD, ADD], 10_000),
+        0 => once_test(alloc, &[ADD, ADD], limit),
+        1 => once_test(alloc, &[DOWN], limit),
+        2 => once_test(alloc, &[ADD, ADD, ADD], Limit::new(2)),
+        3 => once_test(alloc, &[ADD, FAIL, ADD], limit),
+        _ => once_test(alloc, &[ADD, ADD, ADD, ADD], limit),
     }
 }
 

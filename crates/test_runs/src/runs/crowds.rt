@@ -9,7 +9,7 @@ use super::batches::{ORDER, Once, expect_events, once_test};
 use crate::deals::deal_of;
 use crate::steps::ADD;
 use body_kit::{BoxedRun, KitError, run_boxed};
-use pct_ask::{Ask as Asked, Body};
+use pct_ask::{Ask as Asked, Body, Limit};
 use pct_outside::Gate;
 use policy_pick::Pct;
 use std::alloc::{AllocError as NoMemory, Global};
@@ -68,8 +68,8 @@ fn four_at_once(rt: HostRuntime) -> Result<(), Fail> {
         policy,
         limit,
         bodies,
-    } = once_test(rt.alloc(), &ADDS, 10_000)?;
-    let played = run_threads(&rt, rt.alloc(), deal, policy, limit, bodies, &gate)?;
+    } = once_test(rt.alloc(), &ADDS, Limit::new(10_000))?;
+    let played = run_threads(&rt, rt.alloc(), deal, policy, limit.steps(), bodies, &gate)?;
     expect_events(&rt, 4, played.events.as_slice());
     assert_eq!(rt; gate.seen(), 4);
     Ok(())
@@ -81,8 +81,8 @@ fn two_tests(alloc: Global) -> Result<Vec<Test<Pct, Once>>, Fail>
         AreTests (λ b. once_pending b.ask 7 b.asked) points_plan PointsStand tests.items) }
 {
     let mut tests = Vec::new(alloc);
-    tests.push(once_test(alloc, &ADDS, 10_000)?)?;
-    tests.push(once_test(alloc, &ADDS, 10_000)?)?;
+    tests.push(once_test(alloc, &ADDS, Limit::new(10_000))?)?;
+    tests.push(once_test(alloc, &ADDS, Limit::new(10_000))?)?;
     Ok(tests)
 }
 

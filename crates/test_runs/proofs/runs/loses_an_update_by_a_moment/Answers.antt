@@ -3,11 +3,11 @@ use Rattle.worker_run.proofs.laws.Orders.{declared_is_order}
 use Rattle.test_runs.proofs.Ranges.{samples-fit}
 use Rattle.test_runs.proofs.runs.loses_an_update_by_a_moment.Goals as goal
 
-pub run_by_events-requires-clause-order : goal.run_by_events-requires-clause-order
-run_by_events-requires-clause-order g c = λ κs. declared_is_order 3
+pub run_by_moments-requires-clause-order : goal.run_by_moments-requires-clause-order
+run_by_moments-requires-clause-order g c = λ κs. declared_is_order 3
 
-pub run_by_events-requires-clause-in_range : goal.run_by_events-requires-clause-in_range
-run_by_events-requires-clause-in_range g c = λ κs.
+pub run_by_moments-requires-clause-in_range : goal.run_by_moments-requires-clause-in_range
+run_by_moments-requires-clause-in_range g c = λ κs.
     samples-fit c.in_ok-deal.deal c.in_ok-deal.ensures.vars c.in_ok-deal.ensures.threads
     (λ (s : Sample). s.thread) (λ (s : Sample). s.steps) (λ (s : Sample). s.seen)
     c.in_ok-bodies.bodies.items

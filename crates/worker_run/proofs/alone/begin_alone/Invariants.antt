@@ -1,4 +1,4 @@
-use Rattle.turn_book.specs.Told.{BookState, SameMaking}
+use Rattle.turn_book.specs.Told.{SameMaking}
 use Rattle.turn_lock.specs.Rule.{first_view}
 use Rattle.worker_run.proofs.Shares.{IsBegun}
 use Rattle.worker_run.proofs.alone.begin_alone.Given as goal

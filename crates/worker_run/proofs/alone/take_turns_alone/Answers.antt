@@ -7,7 +7,6 @@ use Rattle.std.proofs.lemmas.List.{length-set}
 use Rattle.turn_lock.specs.Seen.{owes_of}
 use Rattle.turn_lock.specs.Turns.{TookTurn}
 use Rattle.turn_lock.specs.Briefs.{brief}
-use Rattle.turn_book.specs.Told.{BookState, SameMaking}
 use Rattle.turn_lock.specs.Rule.{first_view}
 use Rattle.turn_lock.specs.declared.turn.Turn.{Turn}
 use Rattle.turn_lock.specs.declared.turn.Turn.TheVariants.{Answer}

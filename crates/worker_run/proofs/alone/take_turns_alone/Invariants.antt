@@ -1,5 +1,5 @@
 use Rattle.std.proofs.Common.{◌≡◌, ℕ, length}
-use Rattle.turn_book.specs.Told.{BookState, SameMaking}
+use Rattle.turn_book.specs.Told.{SameMaking}
 use Rattle.turn_lock.specs.Rule.{first_view}
 use Rattle.pct_ask.specs.Bodies.{Pending}
 use Rattle.worker_run.specs.Served.{IsShare, GoesOn, NoneOwes}

@@ -1,9 +1,9 @@
-use Rattle.std.proofs.Common.{◌≡◌, ◌<◌, ℕ, true, false, None, refl, sym, ap, subst, ◌∙◌}
+use Rattle.std.proofs.Common.{◌≡◌, ◌<◌, ℕ, false, None, refl, sym, ap, subst, ◌∙◌}
 use Rattle.turn_book.specs.Told.{BookState, IsLawful}
 use Rattle.turn_lock.specs.Seen.{owes_of}
 use Rattle.turn_lock.specs.Rule.{first_view}
 use Rattle.turn_lock.specs.Turns.{TookTurn}
-use Rattle.turn_lock.specs.Briefs.{brief, settles}
+use Rattle.turn_lock.specs.Briefs.{settles}
 use Rattle.turn_lock.proofs.laws.FirstThreads.{first-has}
 use Rattle.turn_lock.proofs.laws.Standings.{here}
 use Rattle.worker_run.proofs.LoneBooks.{lone-took, row-stays, settled-tells}

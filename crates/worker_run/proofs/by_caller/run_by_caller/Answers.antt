@@ -4,5 +4,5 @@ pub returns-clause-run : goal.returns-clause-run
 returns-clause-run g c = record {
   played = c.in_ok-played.ensures.played;
   by_points = c.in_ok-played.ensures.run;
-  by_events = c.in_ok-played.ensures.directed;
+  by_moments = c.in_ok-played.ensures.directed;
 }

@@ -1,5 +1,7 @@
-use Rattle.std.proofs.Common.{map, subst}
+use Rattle.std.proofs.Common.{ℕ, map, ap, subst, ◌∙◌}
 use Rattle.policy_pick.specs.Plan.{Plan, SpeaksOf}
+use Rattle.turn_book.specs.Told.{new_book}
+use Rattle.turn_lock.specs.Rule.{first_view}
 use Rattle.turn_lock.specs.Calls.{first_book}
 use Rattle.turn_lock.specs.Views.{view}
 use Rattle.worker_run.specs.Played.{IsPlayed}
@@ -14,7 +16,11 @@ returns-clause-played g c =
     let lock = first_book c.in_ok-lock.lock in
     let v = view c.in_ok-lock.seat in
     here-played g.B.Body.pending c.args.bodies.items c.args.deal c.args.limit plan lock v
-    c.in_ok-lock.ensures.made c.in_ok-lock.ensures.view c.requires.bodies start
+    (c.in_ok-lock.ensures.made ∙ ap (λ (most : ℕ). new_book c.args.deal most plan)
+    c.new-limit.ensures)
+    (c.in_ok-lock.ensures.view ∙ ap (λ (most : ℕ). first_view (new_book c.args.deal most plan))
+    c.new-limit.ensures)
+    c.requires.bodies start
     c.finish.result.events c.finish.result.outcome
     (c.finish.ensures start c.in_ok-run_on.ensures.played)
 

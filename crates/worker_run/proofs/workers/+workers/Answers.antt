@@ -1,4 +1,4 @@
-use Rattle.std.proofs.Common.{List, length, rules, sym, ap, subst, ◌∙◌, arith}
+use Rattle.std.proofs.Common.{List, length, rules, sym, ap, subst, arith}
 use mir.Syntax.{named}
 use denote.Exit.{no}
 use denote.Ref.{NamedLft}
@@ -11,15 +11,14 @@ use Rattle.std.specs.contracts.impls.GlobalAllocator.TheImpl.{ghosts}
 use Rattle.worker_run.specs.contracts.batch.RunningTest as test
 use Rattle.worker_run.specs.contracts.batch.Task as task
 use Rattle.std.proofs.lemmas.Option.{slice_get_within}
-use Rattle.worker_run.specs.Batches.{AreBack, AreSeats, AreServedTasks, AreTold, IsThere, Holds}
+use Rattle.worker_run.specs.Batches.{AreBack, AreSeats, Holds}
 use Rattle.worker_run.specs.Batches.{ToldAt}
 use Rattle.worker_run.specs.declared.batch.RunningTest.{RunningTest}
 use Rattle.worker_run.specs.declared.batch.Share.{Share}
-use Rattle.worker_run.specs.declared.batch.Task.{Task}
 use Rattle.worker_run.proofs.Crossing.{test-sync, task-send, captures-send}
 use Rattle.worker_run.proofs.Backs.{back-tasks, back-all-there}
 use Rattle.worker_run.proofs.Ends.{written}
-use Rattle.worker_run.proofs.Joins.{told-last, told-joined, told-without, beside-same}
+use Rattle.worker_run.proofs.Joins.{told-last, told-joined, beside-same}
 use Rattle.worker_run.proofs.workers.+workers.Lts-fn-start_worker-scope as scope
 use Rattle.worker_run.proofs.workers.+workers.Goals as goal
 

@@ -16,8 +16,6 @@ returns c =
     let R : List Once → Type 0 =
     λ l. AreInRange sizes (map (λ (b : Once). once_pending b.ask 7 b.asked) l) in
     record {
-      some_steps = c.requires.some_steps;
-      few_steps = c.requires.few_steps;
       stands = c.in_ok-deal.ensures.stands;
       speaks = c.in_ok-deal.ensures.speaks;
       bodies = ap length made ∙ length-map c.args.asks.now new

@@ -1,4 +1,4 @@
-use Rattle.std.proofs.Common.{ℕ, pos, false, [], ◌∷◌, sym, subst, arith}
+use Rattle.std.proofs.Common.{ℕ, false, [], ◌∷◌, sym, subst, arith}
 use Rattle.pct_ask.specs.Objects.{sizes_of_deal}
 use Rattle.pct_ask.specs.Bodies.{Pending, IsInRangeBody}
 use Rattle.test_runs.proofs.Ranges.{adders-within, four-within}

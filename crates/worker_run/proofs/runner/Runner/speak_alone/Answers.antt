@@ -8,7 +8,6 @@ use Rattle.sync_store.specs.World.{answers_of}
 use Rattle.turn_lock.specs.Seen.{owes_of}
 use Rattle.turn_lock.specs.Turns.{TookTurn}
 use Rattle.turn_lock.specs.Briefs.{brief}
-use Rattle.turn_book.specs.Told.{BookState, SameMaking}
 use Rattle.turn_lock.specs.Rule.{first_view}
 use Rattle.turn_lock.specs.declared.turn.Turn.{Turn}
 use Rattle.worker_run.specs.Served.{IsRunning}

@@ -1,6 +1,6 @@
 use Rattle.std.proofs.Common.{◌≡◌, true}
 use Rattle.turn_lock.specs.Seen.{owes_of}
-use Rattle.turn_book.specs.Told.{BookState, SameMaking}
+use Rattle.turn_book.specs.Told.{SameMaking}
 use Rattle.turn_lock.specs.Rule.{first_view}
 use Rattle.pct_ask.specs.Bodies.{Pending}
 use Rattle.worker_run.specs.Served.{IsRunning, Moves}

@@ -5,7 +5,7 @@ use Rattle.script_body.proofs.laws.ScriptBodies.{code_bodies}
 use Rattle.worker_run.specs.Run.{directed_run}
 use Rattle.script_run.specs.Ready.{bodies_of_code}
 use Rattle.script_run.proofs.Runs.{told-run}
-use Rattle.script_run.proofs.ready.ReadyScript.run_by_events.Goals as goal
+use Rattle.script_run.proofs.ready.ReadyScript.run_by_moments.Goals as goal
 
 pub into_whole-requires : goal.into_whole-requires
 into_whole-requires g c =
@@ -19,14 +19,14 @@ returns-clause-code g c =
     let whole = c.into_whole.result in
     let is = c.in_ok-test.ensures.run played c.in_ok-played.ensures in
     told-run (directed_run ready.deal.now (bodies_of_code (listing ready.code.now))
-    c.args.order.now c.args.events.now c.args.limit) played.events whole.events played.outcome
+    c.args.order.now c.args.moments.now c.args.limit) played.events whole.events played.outcome
     whole.verdict is.directed c.into_whole.ensures.events c.into_whole.ensures.verdict
 
 pub returns-clause-directed : goal.returns-clause-directed
 returns-clause-directed g c = λ script of.
     let deal = c.args.self.now.deal.now in
     let code = listing c.args.self.now.code.now in
-    ap (λ bodies. directed_run deal bodies c.args.order.now c.args.events.now c.args.limit)
+    ap (λ bodies. directed_run deal bodies c.args.order.now c.args.moments.now c.args.limit)
     (sym (code_bodies script code of.is_code)) ∙ returns-clause-code g c
 
 pub returns-clause-few : goal.returns-clause-few

@@ -3,17 +3,17 @@ use Rattle.script_code.specs.Listing.{listing}
 use Rattle.script_body.specs.BodyPosts.{pending_of_body}
 use Rattle.script_run.specs.Ready.{bodies_of_code}
 use Rattle.script_run.proofs.Codes.{one-for-each, in-range}
-use Rattle.script_run.proofs.Runs.{events-made}
-use Rattle.script_run.proofs.ready.ReadyScript.test_by_events.Goals as goal
+use Rattle.script_run.proofs.Runs.{moments-made}
+use Rattle.script_run.proofs.ready.ReadyScript.test_by_moments.Goals as goal
 
-pub by_events-requires-clause-bodies : goal.by_events-requires-clause-bodies
-by_events-requires-clause-bodies c κs =
+pub by_moments-requires-clause-bodies : goal.by_moments-requires-clause-bodies
+by_moments-requires-clause-bodies c κs =
     let ready = c.args.self.now in
     one-for-each pending_of_body c.in_ok-bodies.bodies.items (listing ready.code.now) ready.deal.now
     c.in_ok-own.own ready.script c.in_ok-own.ensures c.in_ok-bodies.ensures.code
 
-pub by_events-requires-clause-in_range : goal.by_events-requires-clause-in_range
-by_events-requires-clause-in_range c κs =
+pub by_moments-requires-clause-in_range : goal.by_moments-requires-clause-in_range
+by_moments-requires-clause-in_range c κs =
     let ready = c.args.self.now in
     in-range pending_of_body c.in_ok-bodies.bodies.items (listing ready.code.now) ready.deal.now
     c.in_ok-own.own ready.script c.in_ok-own.ensures c.in_ok-bodies.ensures.code
@@ -21,8 +21,8 @@ by_events-requires-clause-in_range c κs =
 pub returns-clause-run : goal.returns-clause-run
 returns-clause-run c =
     let ready = c.args.self.now in
-    let made = c.by_events.ensures in
-    events-made ready.deal.now c.in_ok-own.own (bodies_of_code (listing ready.code.now))
-    c.args.order.now c.args.events.now c.args.limit c.by_events.result c.in_ok-bodies.bodies
+    let made = c.by_moments.ensures in
+    moments-made ready.deal.now c.in_ok-own.own (bodies_of_code (listing ready.code.now))
+    c.args.order.now c.args.moments.now c.args.limit c.by_moments.result c.in_ok-bodies.bodies
     made.plan
     made.deal made.limit made.bodies c.in_ok-own.ensures c.in_ok-bodies.ensures.code
