@@ -1,6 +1,6 @@
 -- The tests of seeds have the seeds' runs, and their rows.
-use Rattle.std.proofs.Common.{◌≡◌, ◌≤◌, ℕ, List, Option, Some, Result, Ok, Err, length, sym, ap}
-use Rattle.std.proofs.Common.{subst, ◌∙◌, arith}
+use Rattle.std.proofs.Common.{◌≡◌, ℕ, List, Option, Some, Result, Ok, Err, length, sym, ap}
+use Rattle.std.proofs.Common.{subst, ◌∙◌}
 use Rattle.std.specs.Prelude.{IfOk}
 use Rattle.std.specs.Option.{option_map}
 use Rattle.pct_ask.specs.declared.event.Row.{Row}
@@ -21,22 +21,21 @@ use Rattle.campaign.specs.Batches.{IsSeedRun}
 -- a test that was made of what the seed gives has its run
 pub seed-tried : {E : Type 0} (setup : Setup) (seed other : ℕ)
     (made : Result (Test PointsKept ScriptBody) E) (order points : List ℕ)
-    → setup.limit ≤ 100000
     → order ≡ (draw_of_seed seed setup.deal.threads setup.steps setup.depth).order
     → points ≡ (draw_of_seed seed setup.deal.threads setup.steps setup.depth).points
     → seed ≡ other
     → IfOk made (Tries pending_of_body points_plan
     (IsRunByPoints setup.deal setup.bodies order points setup.limit))
     → IfOk made (Tries pending_of_body points_plan (IsSeedRun setup other))
-seed-tried setup seed other (Ok test) order points few ordered pointed same tries = λ played ran.
+seed-tried setup seed other (Ok test) order points ordered pointed same tries = λ played ran.
     let R : List ℕ → List ℕ → Type 0 =
     λ o ps. IsRunByPoints setup.deal setup.bodies o ps setup.limit played in
     let gives = draw_of_seed seed setup.deal.threads setup.steps setup.depth in
     let is = subst (λ o. R o gives.points) ordered (subst (R order) pointed (tries played ran)) in
     let S : ℕ → Type 0 = λ s. IsSeedRun setup s played in
     subst S same
-    (record { run = is.run; short = omega (arith, is.played.obeys.within, few) })
-seed-tried setup seed other (Err e) order points few ordered pointed same tries = tt
+    (record { run = is.run; short = is.played.obeys.within })
+seed-tried setup seed other (Err e) order points ordered pointed same tries = tt
 
 one-verdict : (outcome : Outcome) (v w : Verdict) → outcome ≡ Ends v → outcome ≡ Ends w → v ≡ w
 one-verdict outcome v w a b = let same : Ends v ≡ Ends w = sym a ∙ b in cc

@@ -8,23 +8,22 @@ use Rattle.worker_run.specs.Played.{IsRun}
 use Rattle.worker_run.specs.declared.played.Played.{Played}
 use Rattle.script_run.specs.Ready.{bodies_of_code}
 use Rattle.campaign.specs.Rows.{Setup, run_of_seed, rows_of}
-use Rattle.campaign.specs.declared.task.Task.{Task}
-use Rattle.pct_ask.specs.declared.limits.TheConstants.{MAX_STEPS}
+use Rattle.campaign.specs.declared.common.Campaign.{Campaign}
 
--- what the task's runs have in common
-abbrev pub setup_of_task : Task → Setup
-setup_of_task task = record {
-  deal = task.script.deal.now;
-  bodies = bodies_of_code (listing task.script.code.now);
-  depth = task.depth;
-  steps = task.steps;
-  limit = task.limit;
+-- what the campaign's runs have in common
+abbrev pub setup_of_campaign : Campaign → Setup
+setup_of_campaign campaign = record {
+  deal = campaign.script.deal.now;
+  bodies = bodies_of_code (listing campaign.script.code.now);
+  depth = campaign.depth;
+  steps = campaign.steps;
+  limit = campaign.limit;
 }
 
--- the run of the seed; each run has at most 100,000 steps
+-- the run of the seed, of at most so many steps as the limit says
 pub record IsSeedRun (setup : Setup) (seed : ℕ) (played : Played) : Type 0 where
   pub run : IsRun (run_of_seed setup seed) played.events played.outcome
-  pub short : length played.events ≤ MAX_STEPS
+  pub short : length played.events ≤ setup.limit
 
 -- the rows are those of the first seeds, in their order
 abbrev pub AreFirstRows : Setup → ℕ → List Row → Type 0

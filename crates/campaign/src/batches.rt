@@ -1,17 +1,17 @@
 // The run of each seed, and its row.
 ghost use Rattle.campaign.specs.Rows.{seed_at};
-ghost use Rattle.campaign.specs.Batches.{setup_of_task, IsSeedRun, HasRowsBefore};
+ghost use Rattle.campaign.specs.Batches.{setup_of_campaign, IsSeedRun, HasRowsBefore};
 
-use crate::task::Task;
+use crate::common::Campaign;
 use pct_ask::Row;
 use policy_pick::Pct;
 use priority_draw::Words;
 use script_body::ScriptBody;
 use script_run::Batch;
 use std::alloc::{AllocError as NoMemory, Global};
-use worker_run::{Played, Test};
+use worker_run::{Played, Test, step_count};
 
-impl<'a> Batch for Task<'a> {
+impl<'a> Batch for Campaign<'a> {
     type Policy = Pct;
 
     type Body = ScriptBody<'a>;
@@ -20,19 +20,20 @@ impl<'a> Batch for Task<'a> {
 
     type Answer = ();
 
-    ghost size = { λ task. task.count };
+    ghost size = { λ campaign. campaign.count };
 
-    ghost is_run = { λ task place played.
-        IsSeedRun (setup_of_task task) (seed_at task.first place) played };
+    ghost is_run = { λ campaign place played.
+        IsSeedRun (setup_of_campaign campaign) (seed_at campaign.first place) played };
 
-    ghost stands = { λ task. HasRowsBefore (setup_of_task task) task.first task.count };
+    ghost stands = { λ campaign.
+        HasRowsBefore (setup_of_campaign campaign) campaign.first campaign.count };
 
-    ghost answers = { λ task rows answer. ⊥ };
+    ghost answers = { λ campaign rows answer. ⊥ };
 
     fn test(&self, alloc: Global, place: u32) -> Result<Test<Pct, ScriptBody<'a>>, NoMemory> {
         let mut words = Words::of_seed(self.seed_at(place));
         let order = words.draw_order(alloc, self.script.deal.threads)?;
-        let points = words.draw_points(alloc, self.steps, self.depth - 1)?;
+        let points = words.draw_points(alloc, self.steps.steps(), self.depth.points())?;
         let (order, points) = (order.as_slice(), points.as_slice());
         self.script.test_by_points(alloc, order, points, self.limit)
     }
@@ -46,7 +47,7 @@ impl<'a> Batch for Task<'a> {
     ) -> Result<Option<()>, NoMemory> {
         rows.push_reserved(Row {
             seed: self.seed_at(place),
-            steps: played.events.len() as u32,
+            steps: step_count(&played.events, self.limit),
             verdict: played.verdict(),
         });
         Ok(None)

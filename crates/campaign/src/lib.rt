@@ -9,9 +9,9 @@
 #![tactic(auto)]
 
 mod batches;
+mod common;
 mod one_list;
 mod seeds;
-mod task;
 
 pub use one_list::one_list_of_rows;
 pub use seeds::{campaign, campaign_by};

@@ -5,8 +5,8 @@ ghost use Rattle.script_body.specs.Bodies.{bodies_of, AreOf};
 ghost use Rattle.campaign.specs.Rows.{rows_of};
 ghost use Rattle.pct_ask.specs.declared.limits.TheConstants.{MAX_DEPTH, MAX_RUNS, MAX_STEPS};
 
-use crate::task::Task;
-use pct_ask::{Deal, RowList};
+use crate::common::Campaign;
+use pct_ask::{Deal, Depth, Limit, RowList};
 use pct_outside::Gate;
 use script_code::Code;
 use script_run::{ReadyScript, run_batch};
@@ -24,21 +24,15 @@ pub fn campaign_by<R: Threads + Wait + Sync, G: Gate>(
     deal: &Deal,
     first: u64,
     count: u32,
-    depth: u32,
-    steps: u32,
-    limit: u32,
+    depth: Depth,
+    steps: Limit,
+    limit: Limit,
     serve: Serve,
     gate: &G,
 ) -> Result<RowList, NoMemory>
     requires script { (script : ScriptText) × AreOf script (listing code.now) deal.now }
     requires some_seeds { 1 ≤ count }
     requires few_seeds { count ≤ MAX_RUNS }
-    requires some_depth { 1 ≤ depth }
-    requires little_depth { depth ≤ MAX_DEPTH }
-    requires some_steps { 1 ≤ steps }
-    requires few_steps { steps ≤ MAX_STEPS }
-    requires some_limit { 1 ≤ limit }
-    requires low_limit { limit ≤ MAX_STEPS }
     // Row by row it is the run of the row's seed.
     ensures { (script : ScriptText) → AreOf script (listing code.now) deal.now
         → IfOk result (λ rows. map Some rows ≡ rows_of (record {
@@ -49,7 +43,7 @@ pub fn campaign_by<R: Threads + Wait + Sync, G: Gate>(
           limit = limit;
         }) first count) }
 {
-    let task = Task {
+    let campaign = Campaign {
         script: ReadyScript { code, deal },
         first,
         count,
@@ -62,7 +56,16 @@ pub fn campaign_by<R: Threads + Wait + Sync, G: Gate>(
     let mut start = 0;
     'batches: while start < count {
         let end = start + RUNS_AT_ONCE.min(count - start);
-        run_batch(rt, alloc, &task, &mut rows, start, end, &mut serving, gate)?;
+        run_batch(
+            rt,
+            alloc,
+            &campaign,
+            &mut rows,
+            start,
+            end,
+            &mut serving,
+            gate,
+        )?;
         start = end;
     }
     Ok(RowList::from_vec(rows))
@@ -104,6 +107,9 @@ pub fn campaign<R: Threads + Wait + Sync, G: Gate>(
           limit = limit;
         }) first count) }
 {
+    let depth = Depth::new(depth);
+    let steps = Limit::new(steps);
+    let limit = Limit::new(limit);
     let serve = Serve::Threads;
     campaign_by(
         rt, alloc, code, deal, first, count, depth, steps, limit, serve, gate,

@@ -60,6 +60,7 @@ pub fn find<R: Threads + Wait + Sync, G: Gate>(
         → IfOk result (Finds deal.now (bodies_of script) order.now points.now limit) }
 {
     let ready = ReadyScript { code, deal };
+    let limit = Limit::new(limit);
     let whole = ready.run_by_points(rt, alloc, order, points, limit, Serve::Threads, gate)?;
     let steps = whole.events.len() as u32;
     let verdict = whole.verdict;
@@ -68,7 +69,6 @@ pub fn find<R: Threads + Wait + Sync, G: Gate>(
     }
     let moments = moments_of(alloc, whole.events.as_slice(), points)?;
     let whole = Short { moments, steps };
-    let limit = Limit::new(limit);
     let short = reduce(rt, alloc, &ready, order, whole, &verdict, limit, gate)?;
     Ok(FoundOut::Events {
         events: short.moments,

@@ -14,7 +14,7 @@ use script_run::ReadyScript;
 use std::alloc::{AllocError as NoMemory, Global};
 use std::sync::Wait;
 use std::thread::Threads;
-use worker_run::Serve;
+use worker_run::{Serve, step_count};
 
 /// Moments, and the number of steps of their directed run.
 #[derive(Debug, Drop)]
@@ -53,13 +53,12 @@ fn leave_out<R: Threads + Wait + Sync, G: Gate>(
     ensures fewer { IfOk result (λ left.
         IfSome left (λ short. length short.moments < length moments.now)) }
 {
-    let most = limit.steps();
     for place in 0..moments.len() {
         let rest = without(alloc, moments, place)?;
         let left = rest.as_slice();
-        let whole = ready.run_by_events(rt, alloc, order, left, most, Serve::Threads, gate)?;
+        let whole = ready.run_by_moments(rt, alloc, order, left, limit, Serve::Threads, gate)?;
         if whole.verdict.is(verdict) {
-            let steps = whole.events.len() as u32;
+            let steps = step_count(&whole.events, limit);
             return Ok(Some(Short {
                 moments: rest,
                 steps,

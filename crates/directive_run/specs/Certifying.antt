@@ -98,7 +98,7 @@ Certifies deal bodies directive steps limit (Refuted order verdict) =
 Certifies deal bodies directive steps limit (TooLong order many) =
     IsTooLongUnder deal bodies directive steps limit order many
 Certifies deal bodies directive steps limit (TooManyThreads threads) =
-    (threads ≡ deal.threads) × (7 < threads)
+    (threads ≡ deal.threads) × (MAX_CERTIFIED_THREADS < threads)
 
 -- the answer is that the directive is certified
 abbrev pub IsYes : Certified → Type 0

@@ -17,10 +17,9 @@ use Rattle.directive_run.specs.Exposing.{RunsTooLong}
 use Rattle.choices.specs.Orders.{low_orders}
 use Rattle.directive_run.specs.Certifying.{IsPointed, AreRows}
 use Rattle.directive_run.specs.declared.answers.CertifyRow.{CertifyRow}
-use Rattle.directive_run.specs.declared.task.Task.{Task}
+use Rattle.directive_run.specs.declared.claim.Claim.{Claim}
 use Rattle.directive_run.specs.declared.judging.Tested.{Tested}
 use Rattle.directive_run.specs.declared.judging.Tested.TheVariants.{Led, Other, TooLong}
-use Rattle.pct_ask.specs.declared.limits.TheConstants.{MAX_STEPS}
 
 -- what the directed runs of a directive have in common: what the threads share, their bodies, the
 -- directive, within how many steps it is to lead to its verdict, and the limit
@@ -36,14 +35,14 @@ abbrev pub run_of_order : DirectedSetup → List ℕ → Option Run
 run_of_order setup order =
     directed_run setup.deal setup.bodies order setup.directive.events setup.limit
 
--- what a task's runs have in common
-abbrev pub directed_setup : Task → DirectedSetup
-directed_setup task = record {
-  deal = task.script.deal.now;
-  bodies = bodies_of_code (listing task.script.code.now);
-  directive = task.directive.now;
-  steps = task.steps;
-  limit = task.limit;
+-- what a claim's runs have in common
+abbrev pub directed_setup : Claim → DirectedSetup
+directed_setup claim = record {
+  deal = claim.script.deal.now;
+  bodies = bodies_of_code (listing claim.script.code.now);
+  directive = claim.directive.now;
+  steps = claim.steps;
+  limit = claim.limit;
 }
 
 -- ---- one order
@@ -75,10 +74,10 @@ abbrev pub IsOrderAt : DirectedSetup → ℕ → List ℕ → Type 0
 IsOrderAt setup place order =
     slice_get (low_orders setup.deal.threads setup.directive.low) place ≡ Some order
 
--- the directed run of the order; each run has at most 100,000 steps
+-- the directed run of the order, of at most so many steps as the limit says
 pub record IsOrderRun (setup : DirectedSetup) (order : List ℕ) (played : Played) : Type 0 where
   pub run : IsRun (run_of_order setup order) played.events played.outcome
-  pub short : length played.events ≤ MAX_STEPS
+  pub short : length played.events ≤ setup.limit
 
 -- it is that of the order at the place
 abbrev pub IsRunAt : DirectedSetup → ℕ → Played → Type 0

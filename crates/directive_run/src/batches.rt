@@ -5,8 +5,8 @@ ghost use Rattle.directive_run.specs.Certifying.{Certifies};
 ghost use Rattle.directive_run.specs.Tested.{directed_setup, IsRunAt, HasRowsBefore};
 
 use crate::answers::{Certified, CertifyRow, CertifyRows};
+use crate::claim::Claim;
 use crate::judging::{Tested, test_run};
-use crate::task::Task;
 use choices::low_order_at;
 use policy_pick::DirectedPolicy;
 use script_body::ScriptBody;
@@ -14,7 +14,7 @@ use script_run::Batch;
 use std::alloc::{AllocError as NoMemory, Global};
 use worker_run::{Played, Test};
 
-impl<'a> Batch for Task<'a, '_> {
+impl<'a> Batch for Claim<'a, '_> {
     type Policy = DirectedPolicy;
 
     type Body = ScriptBody<'a>;
@@ -23,14 +23,14 @@ impl<'a> Batch for Task<'a, '_> {
 
     type Answer = Certified;
 
-    ghost size = { λ task. factorial (task.script.deal.now.threads - 1) };
+    ghost size = { λ claim. factorial (claim.script.deal.now.threads - 1) };
 
-    ghost is_run = { λ task. IsRunAt (directed_setup task) };
+    ghost is_run = { λ claim. IsRunAt (directed_setup claim) };
 
-    ghost stands = { λ task. HasRowsBefore (directed_setup task) };
+    ghost stands = { λ claim. HasRowsBefore (directed_setup claim) };
 
-    ghost answers = { λ task rows certified. Certifies task.script.deal.now
-        (directed_setup task).bodies task.directive.now task.steps task.limit certified };
+    ghost answers = { λ claim rows certified. Certifies claim.script.deal.now
+        (directed_setup claim).bodies claim.directive.now claim.steps claim.limit certified };
 
     fn test(
         &self,
@@ -39,8 +39,8 @@ impl<'a> Batch for Task<'a, '_> {
     ) -> Result<Test<DirectedPolicy, ScriptBody<'a>>, NoMemory> {
         let order = low_order_at(alloc, self.script.deal.threads, self.directive.low, place)?;
         let (order, moments) = (order.as_slice(), self.directive.events.as_slice());
-        let limit = self.limit.steps();
-        self.script.test_by_events(alloc, order, moments, limit)
+        self.script
+            .test_by_moments(alloc, order, moments, self.limit)
     }
 
     fn take(

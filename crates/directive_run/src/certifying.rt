@@ -8,7 +8,7 @@ ghost use Rattle.directive_run.specs.Certifying.{Certifies};
 ghost use Rattle.pct_ask.specs.declared.limits.TheConstants.{MAX_STEPS};
 
 use crate::answers::{Certified, CertifyRows};
-use crate::task::Task;
+use crate::claim::Claim;
 use choices::{bound_of, order_count};
 use directive::Directive;
 use pct_ask::{Deal, Limit, MAX_CERTIFIED_THREADS};
@@ -42,7 +42,7 @@ pub fn certify_by<R: Threads + Wait + Sync, G: Gate>(
     if threads > MAX_CERTIFIED_THREADS {
         return Ok(Certified::TooManyThreads { threads });
     }
-    let task = Task {
+    let claim = Claim {
         script: ReadyScript { code, deal },
         directive,
         steps,
@@ -59,7 +59,7 @@ pub fn certify_by<R: Threads + Wait + Sync, G: Gate>(
         if let Some(certified) = run_batch(
             rt,
             alloc,
-            &task,
+            &claim,
             &mut rows,
             start,
             end,

@@ -11,7 +11,7 @@ ghost use Rattle.pct_ask.specs.declared.limits.TheConstants.{MAX_STEPS};
 use crate::answers::Exposed;
 use choices::points_of;
 use directive::Directive;
-use pct_ask::Deal;
+use pct_ask::{Deal, Limit};
 use pct_outside::Gate;
 use script_code::Code;
 use script_run::ReadyScript;
@@ -47,7 +47,8 @@ pub fn expose<R: Threads + Wait + Sync, G: Gate>(
 {
     let moments = directive.events.as_slice();
     let ready = ReadyScript { code, deal };
-    let whole = ready.run_by_events(rt, alloc, order, moments, limit, Serve::Threads, gate)?;
+    let limit = Limit::new(limit);
+    let whole = ready.run_by_moments(rt, alloc, order, moments, limit, Serve::Threads, gate)?;
     let many = whole.events.len() as u32;
     if many > steps {
         return Ok(Exposed::TooLong { steps: many });

@@ -2,11 +2,11 @@
 ghost use Rattle.std.specs.Prelude.{IfOk, List, ℕ};
 ghost use Rattle.directive_run.specs.Tested.{directed_setup, Tells, IsOrderRun};
 
-use crate::task::Task;
+use crate::claim::Claim;
 use choices::points_of;
 use pct_ask::{PointList, Verdict};
 use std::alloc::{AllocError as NoMemory, Global};
-use worker_run::Played;
+use worker_run::{Played, step_count};
 
 /// What one order leads to.
 #[derive(Drop)]
@@ -20,20 +20,20 @@ pub enum Tested {
 }
 
 /// What an order leads to, by its directed run.
-pub fn test_run(alloc: Global, task: &Task<'_, '_>, played: &Played) -> Result<Tested, NoMemory>
-    requires run { (order : List ℕ) × IsOrderRun (directed_setup task.now) order played.now }
-    ensures { (order : List ℕ) → IsOrderRun (directed_setup task.now) order played.now
-        → IfOk result (Tells (directed_setup task.now) order) }
+pub fn test_run(alloc: Global, claim: &Claim<'_, '_>, played: &Played) -> Result<Tested, NoMemory>
+    requires run { (order : List ℕ) × IsOrderRun (directed_setup claim.now) order played.now }
+    ensures { (order : List ℕ) → IsOrderRun (directed_setup claim.now) order played.now
+        → IfOk result (Tells (directed_setup claim.now) order) }
 {
     let verdict = played.verdict();
-    let many = played.events.len() as u32;
-    let most = task.steps.steps();
+    let many = step_count(&played.events, claim.limit);
+    let most = claim.steps.steps();
     if many > most {
         return Ok(Tested::TooLong(many));
     }
-    if !verdict.is(&task.directive.verdict) {
+    if !verdict.is(&claim.directive.verdict) {
         return Ok(Tested::Other(verdict));
     }
-    let moments = task.directive.events.as_slice();
+    let moments = claim.directive.events.as_slice();
     Ok(Tested::Led(points_of(alloc, played.events.as_slice(), most, moments)?))
 }

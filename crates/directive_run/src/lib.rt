@@ -21,9 +21,9 @@ mod answers;
 mod batches;
 mod certificate;
 mod certifying;
+mod claim;
 mod exposing;
 mod judging;
-mod task;
 
 pub use answers::{Certified, CertifyRow, CertifyRows, Exposed};
 pub use certificate::one_certificate;

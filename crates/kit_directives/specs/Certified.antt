@@ -110,4 +110,4 @@ Certifies deal directive steps limit (Refuted order verdict) =
 Certifies deal directive steps limit (TooLong order many) =
     IsFirstOther deal directive steps limit (TooLong order many)
 Certifies deal directive steps limit (TooManyThreads threads) =
-    (threads ≡ deal.threads) × (7 < threads)
+    (threads ≡ deal.threads) × (MAX_CERTIFIED_THREADS < threads)

@@ -4,7 +4,7 @@ use Rattle.std.specs.Option.{is_some}
 use Rattle.script_run.specs.Batches.{Decides}
 use Rattle.sweep.specs.declared.next.Counts.{Counts}
 use Rattle.sweep.specs.declared.next.Next.{Next}
-use Rattle.sweep.specs.Batches.{setup_of_task, AreAbove, HasCounted, HasCountedNext}
+use Rattle.sweep.specs.Batches.{setup_of_sweep, AreAbove, HasCounted, HasCountedNext}
 use Rattle.sweep.specs.Batches.{HasCountedLonger}
 use Rattle.sweep.proofs.Aheads.{none-ahead}
 use Rattle.sweep.proofs.Steps.{pass-by}
@@ -21,14 +21,14 @@ pub passed-all : {A : Type 0} (next : Next) (counts : Counts) (i : ℕ) (found :
     → is_some found ≡ false
     → Decides (HasCountedNext next) (λ kept answer. HasCountedLonger next kept) counts i found
     → length next.ahead.now.places.items ≤ i
-    → HasCounted (setup_of_task next.task) (record counts.reach { place = next.ahead.now.end })
+    → HasCounted (setup_of_sweep next.sweep.now) (record counts.reach { place = next.ahead.now.end })
     counts.tally
 passed-all next counts i found none decides short =
-    let setup = setup_of_task next.task in
+    let setup = setup_of_sweep next.sweep.now in
     let has = no-longer next counts i found none decides in
     let rest = none-ahead setup next.before.longest counts.reach.place next.ahead.now.end i
     next.ahead.now.places.items short has.ahead in
-    pass-by setup (next.task).some_steps counts.reach counts.tally next.ahead.now.end rest.0
-    (omega (arith, next.end, (next.task).whole))
+    pass-by setup (next.sweep.now).some_steps counts.reach counts.tally next.ahead.now.end rest.0
+    (omega (arith, next.end, (next.sweep.now).whole))
     (subst (λ n. AreAbove setup n counts.reach.place next.ahead.now.end) (sym has.same) rest.1)
     has.counted

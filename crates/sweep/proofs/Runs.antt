@@ -1,6 +1,6 @@
 -- The tests of choices have the choices' runs.
-use Rattle.std.proofs.Common.{◌≡◌, ◌≤◌, ◌<◌, ℕ, List, Some, Result, Ok, Err, length, get_or}
-use Rattle.std.proofs.Common.{sym, subst, ◌∙◌, arith}
+use Rattle.std.proofs.Common.{◌≡◌, ◌<◌, ℕ, List, Some, Result, Ok, Err, length, get_or}
+use Rattle.std.proofs.Common.{sym, subst, ◌∙◌}
 use Rattle.std.specs.Prelude.{IfOk}
 use Rattle.std.proofs.lemmas.Option.{slice_get-get_or}
 use Rattle.policy_pick.specs.Kept.{PointsKept, points_plan}
@@ -11,17 +11,16 @@ use Rattle.script_run.specs.Tests.{Tries, IsRunByPoints}
 use Rattle.sweep.specs.declared.choice.Choice.{Choice}
 use Rattle.sweep.specs.declared.next.Next.{Next}
 use Rattle.sweep.specs.Rows.{Setup}
-use Rattle.sweep.specs.Batches.{setup_of_task, IsChoiceAt, IsRunAt, IsRunOfNext}
+use Rattle.sweep.specs.Batches.{setup_of_sweep, IsChoiceAt, IsRunAt, IsRunOfNext}
 
 -- a test that was made of the choice at the place has its run
 choice-tried : {E : Type 0} (setup : Setup) (place : ℕ) (choice : Choice)
     (made : Result (Test PointsKept ScriptBody) E) (order points : List ℕ)
-    → setup.limit ≤ 100000 → IsChoiceAt setup place choice → order ≡ choice.order
-    → points ≡ choice.points
+    → IsChoiceAt setup place choice → order ≡ choice.order → points ≡ choice.points
     → IfOk made (Tries pending_of_body points_plan
     (IsRunByPoints setup.deal setup.bodies order points setup.limit))
     → IfOk made (Tries pending_of_body points_plan (IsRunAt setup place))
-choice-tried setup place choice (Ok test) order points few at ordered pointed tries =
+choice-tried setup place choice (Ok test) order points at ordered pointed tries =
     λ played ran.
     let R : List ℕ → List ℕ → Type 0 =
     λ o ps. IsRunByPoints setup.deal setup.bodies o ps setup.limit played in
@@ -30,33 +29,33 @@ choice-tried setup place choice (Ok test) order points few at ordered pointed tr
       choice = choice;
       at = at;
       run = is.run;
-      short = omega (arith, is.played.obeys.within, few);
+      short = is.played.obeys.within;
     }
-choice-tried setup place choice (Err e) order points few at ordered pointed tries = tt
+choice-tried setup place choice (Err e) order points at ordered pointed tries = tt
 
 -- the run at the place is that of the number at which the place stands
 numbered : {E : Type 0} (next : Next) (i place : ℕ) (made : Result (Test PointsKept ScriptBody) E)
     → i < length next.ahead.now.places.items
     → place ≡ get_or next.ahead.now.places.items i place
-    → IfOk made (Tries pending_of_body points_plan (IsRunAt (setup_of_task next.task) place))
+    → IfOk made (Tries pending_of_body points_plan (IsRunAt (setup_of_sweep next.sweep.now) place))
     → IfOk made (Tries pending_of_body points_plan (IsRunOfNext next i))
 numbered next i place (Ok test) within is tries = λ played ran other at.
     let both : Some (get_or next.ahead.now.places.items i place) ≡ Some other =
     sym (slice_get-get_or next.ahead.now.places.items i place within) ∙ at in
     let same : get_or next.ahead.now.places.items i place ≡ other = cc in
-    subst (λ p. IsRunAt (setup_of_task next.task) p played) (is ∙ same) (tries played ran)
+    subst (λ p. IsRunAt (setup_of_sweep next.sweep.now) p played) (is ∙ same) (tries played ran)
 numbered next i place (Err e) within is tries = tt
 
 pub next-tried : {E : Type 0} (next : Next) (i place : ℕ) (choice : Choice)
     (made : Result (Test PointsKept ScriptBody) E) (order points : List ℕ)
-    → next.task.limit ≤ 100000 → i < length next.ahead.now.places.items
+    → i < length next.ahead.now.places.items
     → place ≡ get_or next.ahead.now.places.items i place
-    → IsChoiceAt (setup_of_task next.task) place choice → order ≡ choice.order
+    → IsChoiceAt (setup_of_sweep next.sweep.now) place choice → order ≡ choice.order
     → points ≡ choice.points
     → IfOk made (Tries pending_of_body points_plan
-    (IsRunByPoints (setup_of_task next.task).deal (setup_of_task next.task).bodies order points
-    next.task.limit)) → IfOk made (Tries pending_of_body points_plan (IsRunOfNext next i))
-next-tried next i place choice made order points few within is at ordered pointed tries =
+    (IsRunByPoints (setup_of_sweep next.sweep.now).deal (setup_of_sweep next.sweep.now).bodies order points
+    next.sweep.now.limit)) → IfOk made (Tries pending_of_body points_plan (IsRunOfNext next i))
+next-tried next i place choice made order points within is at ordered pointed tries =
     numbered next i place made within is
-    (choice-tried (setup_of_task next.task) place choice made order points few at ordered pointed
+    (choice-tried (setup_of_sweep next.sweep.now) place choice made order points at ordered pointed
     tries)

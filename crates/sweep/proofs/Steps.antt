@@ -18,7 +18,7 @@ use Rattle.failure_rank.specs.Growing.{IsTally}
 use Rattle.failure_rank.specs.declared.tally.Tally.{Tally}
 use Rattle.sweep.specs.Choices.{choice_of, choice_count}
 use Rattle.sweep.specs.declared.choice.Choice.{Choice}
-use Rattle.sweep.specs.declared.task.Reach.{Reach}
+use Rattle.sweep.specs.declared.common.Reach.{Reach}
 use Rattle.sweep.specs.Rows.{Setup, leads, row_of_run, row_of_choice, choices_of}
 use Rattle.sweep.specs.Weights.{weight, top, copies, spread, often_in}
 use Rattle.sweep.specs.Batches.{IsChoiceAt, IsRunAt, HasCounted, AreAbove}

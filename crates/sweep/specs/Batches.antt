@@ -12,32 +12,31 @@ use Rattle.failure_rank.specs.declared.tally.Tally.{Tally}
 use Rattle.sweep.specs.declared.choice.Choice.{Choice}
 use Rattle.sweep.specs.Rows.{Setup, leads, choices_of}
 use Rattle.sweep.specs.Weights.{weight, spread, often_in}
-use Rattle.sweep.specs.declared.task.Task.{Task}
-use Rattle.sweep.specs.declared.task.Reach.{Reach}
+use Rattle.sweep.specs.declared.common.Sweep.{Sweep}
+use Rattle.sweep.specs.declared.common.Reach.{Reach}
 use Rattle.sweep.specs.declared.next.Counts.{Counts}
 use Rattle.sweep.specs.declared.next.Next.{Next}
-use Rattle.pct_ask.specs.declared.limits.TheConstants.{MAX_STEPS}
 
--- what the task's runs have in common
-abbrev pub setup_of_task : Task → Setup
-setup_of_task task = record {
-  deal = task.script.deal.now;
-  bodies = bodies_of_code (listing task.script.code.now);
-  many = task.points;
-  steps = task.steps;
-  limit = task.limit;
+-- what the sweep's runs have in common
+abbrev pub setup_of_sweep : Sweep → Setup
+setup_of_sweep sweep = record {
+  deal = sweep.script.deal.now;
+  bodies = bodies_of_code (listing sweep.script.code.now);
+  many = sweep.points;
+  steps = sweep.steps;
+  limit = sweep.limit;
 }
 
 -- the choice stands at the place, from 0, among all
 abbrev pub IsChoiceAt : Setup → ℕ → Choice → Type 0
 IsChoiceAt setup place choice = slice_get (choices_of setup) place ≡ Some choice
 
--- the run of the choice at the place; each run has at most 100,000 steps
+-- the run of the choice at the place, of at most so many steps as the limit says
 pub record IsRunAt (setup : Setup) (place : ℕ) (played : Played) : Type 0 where
   pub choice : Choice
   pub at : IsChoiceAt setup place choice
   pub run : IsRun (leads setup choice.order choice.points) played.events played.outcome
-  pub short : length played.events ≤ MAX_STEPS
+  pub short : length played.events ≤ setup.limit
 
 -- Each choice before the place is counted: its row as often as there are choices for which it
 -- stands. None of their runs is longer than the longest.
@@ -68,19 +67,19 @@ AreAhead setup long from (place ∷ places) end =
 -- the run of the one of this number among them
 abbrev pub IsRunOfNext : Next → ℕ → Played → Type 0
 IsRunOfNext next i played = (place : ℕ) → slice_get next.ahead.now.places.items i ≡ Some place
-    → IsRunAt (setup_of_task next.task) place played
+    → IsRunAt (setup_of_sweep next.sweep.now) place played
 
 -- those before the one of this number are counted, and none was longer than the runs before them
 pub record HasCountedNext (next : Next) (counts : Counts) (i : ℕ) : Type 0 where
   pub same : counts.reach.longest ≡ next.before.longest
   pub from : next.before.place ≤ counts.reach.place
   pub ahead :
-      AreAhead (setup_of_task next.task) next.before.longest counts.reach.place
+      AreAhead (setup_of_sweep next.sweep.now) next.before.longest counts.reach.place
       (drop i next.ahead.now.places.items) next.ahead.now.end
-  pub counted : HasCounted (setup_of_task next.task) counts.reach counts.tally
+  pub counted : HasCounted (setup_of_sweep next.sweep.now) counts.reach counts.tally
 
 -- some are counted, of which the last was longer
 pub record HasCountedLonger (next : Next) (counts : Counts) : Type 0 where
-  pub within : counts.reach.place ≤ next.task.choices
+  pub within : counts.reach.place ≤ next.sweep.now.choices
   pub goes_on : next.before.place < counts.reach.place
-  pub counted : HasCounted (setup_of_task next.task) counts.reach counts.tally
+  pub counted : HasCounted (setup_of_sweep next.sweep.now) counts.reach counts.tally

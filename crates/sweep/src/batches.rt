@@ -3,13 +3,13 @@ ghost use Rattle.std.specs.Prelude.{◌≡◌, ◌≤◌, ◌<◌, ◌+◌, ◌+
 ghost use Rattle.std.specs.Prelude.{OnOk, Some, slice_get};
 ghost use Rattle.pct_ask.specs.declared.event.Row.{Row};
 ghost use Rattle.failure_rank.specs.Growing.{IsTally};
-ghost use Rattle.sweep.specs.Batches.{setup_of_task, IsRunAt, HasCounted, AreAbove};
+ghost use Rattle.sweep.specs.Batches.{setup_of_sweep, IsRunAt, HasCounted, AreAbove};
 ghost use Rattle.sweep.specs.Batches.{IsRunOfNext, HasCountedNext, HasCountedLonger};
 
 use crate::ahead::{choices_ahead, stands_for};
 use crate::choice::choice_at;
+use crate::common::{Reach, Sweep};
 use crate::next::{Counts, Next};
-use crate::task::{Reach, Task};
 use failure_rank::Tally;
 use pct_ask::Row;
 use pct_outside::Gate;
@@ -19,7 +19,7 @@ use script_run::{Batch, run_batch};
 use std::alloc::{AllocError as NoMemory, Global};
 use std::sync::Wait;
 use std::thread::Threads;
-use worker_run::{Played, Serving, Test};
+use worker_run::{Played, Serving, Test, step_count};
 
 /// Counts a row so many times.
 fn add_copies(tally: &mut Tally, row: &Row, times: u32) -> Result<(), NoMemory>
@@ -35,28 +35,28 @@ fn add_copies(tally: &mut Tally, row: &Row, times: u32) -> Result<(), NoMemory>
 
 /// Counts the run of the next choice, for all choices for which it stands.
 fn count_run(
-    task: &Task<'_>,
+    sweep: &Sweep<'_>,
     tally: &mut Tally,
     reach: Reach,
     place: u32,
     played: &Played,
 ) -> Result<Reach, NoMemory>
     requires ahead { reach.place ≤ place }
-    requires place { place < task.now.choices }
-    requires above { AreAbove (setup_of_task task.now) reach.longest reach.place place }
-    requires run { IsRunAt (setup_of_task task.now) place played.now }
-    requires before { HasCounted (setup_of_task task.now) reach tally.old }
+    requires place { place < sweep.now.choices }
+    requires above { AreAbove (setup_of_sweep sweep.now) reach.longest reach.place place }
+    requires run { IsRunAt (setup_of_sweep sweep.now) place played.now }
+    requires before { HasCounted (setup_of_sweep sweep.now) reach tally.old }
     ensures place { IfOk result (λ now. now.place ≡ place + 1) }
     ensures longest { IfOk result (λ now. reach.longest ≤ now.longest) }
-    ensures counted { IfOk result (λ now. HasCounted (setup_of_task task.now) now tally.new) }
+    ensures counted { IfOk result (λ now. HasCounted (setup_of_sweep sweep.now) now tally.new) }
 {
-    let steps = played.events.len() as u32;
+    let steps = step_count(&played.events, sweep.limit);
     let row = Row {
         seed: u64::from(place),
         steps,
         verdict: played.verdict(),
     };
-    add_copies(tally, &row, stands_for(task, place, steps.max(1)))?;
+    add_copies(tally, &row, stands_for(sweep, place, steps.max(1)))?;
     Ok(Reach {
         place: place + 1,
         longest: reach.longest.max(steps),
@@ -82,11 +82,14 @@ impl<'n> Batch for Next<'n> {
     ghost answers = { λ next counts answer. HasCountedLonger next counts };
 
     fn test(&self, alloc: Global, place: u32) -> Result<Test<Pct, ScriptBody<'n>>, NoMemory> {
-        let task = self.task;
+        let sweep = self.sweep;
         let at = self.ahead.places[place as usize];
-        let choice = choice_at(alloc, task.script.deal.threads, task.steps, task.points, at)?;
+        let threads = sweep.script.deal.threads;
+        let choice = choice_at(alloc, threads, sweep.steps, sweep.points, at)?;
         let (order, points) = (choice.order.as_slice(), choice.points.as_slice());
-        task.script.test_by_points(alloc, order, points, task.limit)
+        sweep
+            .script
+            .test_by_points(alloc, order, points, sweep.limit)
     }
 
     fn take(
@@ -97,7 +100,7 @@ impl<'n> Batch for Next<'n> {
         played: &Played,
     ) -> Result<Option<()>, NoMemory> {
         let at = self.ahead.places[place as usize];
-        counts.reach = count_run(&self.task, &mut counts.tally, counts.reach, at, played)?;
+        counts.reach = count_run(self.sweep, &mut counts.tally, counts.reach, at, played)?;
         if counts.reach.longest > self.before.longest {
             return Ok(Some(()));
         }
@@ -110,24 +113,24 @@ impl<'n> Batch for Next<'n> {
 pub fn count_ahead<R: Threads + Wait + Sync, G: Gate>(
     rt: &R,
     alloc: Global,
-    task: &Task<'_>,
+    sweep: &Sweep<'_>,
     counts: &mut Counts,
     most: u32,
     serving: &mut Serving,
     gate: &G,
 ) -> Result<(), NoMemory>
     requires some { 1 ≤ most }
-    requires within { counts.old.reach.place < task.now.choices }
-    requires before { HasCounted (setup_of_task task.now) counts.old.reach counts.old.tally }
-    ensures within { OnOk result (counts.new.reach.place ≤ task.now.choices) }
+    requires within { counts.old.reach.place < sweep.now.choices }
+    requires before { HasCounted (setup_of_sweep sweep.now) counts.old.reach counts.old.tally }
+    ensures within { OnOk result (counts.new.reach.place ≤ sweep.now.choices) }
     ensures goes_on { OnOk result (counts.old.reach.place < counts.new.reach.place) }
     ensures counted { OnOk result
-        (HasCounted (setup_of_task task.now) counts.new.reach counts.new.tally) }
+        (HasCounted (setup_of_sweep sweep.now) counts.new.reach counts.new.tally) }
 {
     let before = counts.reach;
-    let ahead = choices_ahead(alloc, task, before, most)?;
+    let ahead = choices_ahead(alloc, sweep, before, most)?;
     let next = Next {
-        task: *task,
+        sweep,
         ahead: &ahead,
         before,
     };

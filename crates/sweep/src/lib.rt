@@ -18,10 +18,10 @@
 mod ahead;
 mod batches;
 mod choice;
+mod common;
 mod counted;
 mod next;
 mod sweeping;
-mod task;
 
 pub use choice::{Choice, choice_at, choice_count};
 pub use counted::sweeps_are_counted;

@@ -2,7 +2,7 @@
 ghost use Rattle.std.specs.Prelude.{◌≤◌, ◌<◌, All};
 
 use crate::ahead::Ahead;
-use crate::task::{Reach, Task};
+use crate::common::{Reach, Sweep};
 use failure_rank::Tally;
 use std::alloc::Global;
 
@@ -37,9 +37,9 @@ impl Counts {
 /// The choices whose runs come next, and how far the sweep has come before them.
 #[derive(Clone, Copy)]
 pub struct Next<'n> {
-    pub task: Task<'n>,
+    pub sweep: &'n Sweep<'n>,
     pub ahead: &'n Ahead,
     pub before: Reach,
-    ghost within: { All (λ place. place < task.choices) ahead.now.places.items },
-    ghost end: { ahead.now.end ≤ task.choices },
+    ghost within: { All (λ place. place < sweep.now.choices) ahead.now.places.items },
+    ghost end: { ahead.now.end ≤ sweep.now.choices },
 }

@@ -7,10 +7,10 @@ ghost use Rattle.pct_ask.specs.declared.limits.TheConstants.{MAX_POINTS, MAX_STE
 
 use crate::batches::count_ahead;
 use crate::choice::choice_count;
+use crate::common::Sweep;
 use crate::next::Counts;
-use crate::task::Task;
 use failure_rank::Groups;
-use pct_ask::Deal;
+use pct_ask::{Deal, Limit};
 use pct_outside::Gate;
 use script_code::Code;
 use script_run::ReadyScript;
@@ -87,11 +87,11 @@ pub fn sweep<R: Threads + Wait + Sync, G: Gate>(
     let Some(choices) = choice_count(deal.threads, steps, points) else {
         return Ok(Answer::TooMany);
     };
-    let task = Task {
+    let sweep = Sweep {
         script: ReadyScript { code, deal },
         points,
         steps,
-        limit,
+        limit: Limit::new(limit),
         choices,
     };
     let mut serving = Serving::new(alloc, serve);
@@ -99,7 +99,7 @@ pub fn sweep<R: Threads + Wait + Sync, G: Gate>(
     let mut size = 1;
     'batches: while counts.reach.place < choices {
         let longest = counts.reach.longest;
-        count_ahead(rt, alloc, &task, &mut counts, size, &mut serving, gate)?;
+        count_ahead(rt, alloc, &sweep, &mut counts, size, &mut serving, gate)?;
         size = next_size(size, RUNS_AT_ONCE, counts.reach.longest > longest);
     }
     let tally = counts.tally;

@@ -5,7 +5,7 @@ ghost use Rattle.script_run.specs.Ready.{bodies_of_code};
 ghost use Rattle.script_run.specs.Tests.{IsRunByPoints};
 
 use crate::scripts::{ADDERS, FAILED, FIRST_OF_A, code_and_deal};
-use pct_ask::Verdict;
+use pct_ask::{Limit, Verdict};
 use pct_outside::OpenGate;
 use policy_pick::Pct;
 use script_body::ScriptBody;
@@ -45,7 +45,7 @@ impl<'a> Batch for Adders<'a> {
 
     fn test(&self, alloc: Global, place: u32) -> Result<Test<Pct, ScriptBody<'a>>, NoMemory> {
         self.ready
-            .test_by_points(alloc, &[0, 1, 2], &[4 - place], 100)
+            .test_by_points(alloc, &[0, 1, 2], &[4 - place], Limit::new(100))
     }
 
     fn take(
@@ -92,10 +92,11 @@ fn expect_failed<R: Threads + Wait + Abort + Sync>(
     let gate = OpenGate::new();
     let ready = adders.ready;
     let order = [0, 1, 2];
-    let run = ready.run_by_points(rt, alloc, &order, &[1], 100, serve, &gate)?;
+    let limit = Limit::new(100);
+    let run = ready.run_by_points(rt, alloc, &order, &[1], limit, serve, &gate)?;
     assert_eq!(rt; run.verdict, FAILED);
     assert_eq!(rt; run.events.len(), 8);
-    let directed = ready.run_by_events(rt, alloc, &order, &[FIRST_OF_A], 100, serve, &gate)?;
+    let directed = ready.run_by_moments(rt, alloc, &order, &[FIRST_OF_A], limit, serve, &gate)?;
     assert_eq!(rt; directed.verdict, FAILED);
     assert_eq!(rt; directed.events.as_slice(), run.events.as_slice());
     Ok(())

@@ -11,9 +11,9 @@ invariant-batches g l = record {
   rows : HasRowsBefore (record {
     deal = l.deal;
     bodies = bodies_of_code (listing l.code);
-    depth = l.depth;
-    steps = l.steps;
-    limit = l.limit;
+    depth = l.fn.depth;
+    steps = l.fn.steps;
+    limit = l.fn.limit;
   }) l.first l.count l.rows l.start;
 }
 

@@ -3,11 +3,11 @@ use Rattle.std.proofs.Common.{ℕ, List, length, arith, ap, sym, subst, ◌∙�
 use Rattle.turn_book.specs.Posts.{schedule_of}
 use Rattle.pct_ask.specs.Bodies.{Pending}
 use Rattle.script_code.specs.Listing.{listing}
+use Rattle.script_body.specs.Bodies.{bodies_of}
 use Rattle.script_body.proofs.laws.ScriptBodies.{code_bodies}
 use Rattle.worker_run.specs.Run.{directed_run}
 use Rattle.choices.specs.Moments.{moments_of}
 use Rattle.script_run.specs.Ready.{bodies_of_code}
-use Rattle.directive_find.specs.Reduced.{IsReduced}
 use Rattle.directive_find.specs.Found.{Finds}
 use Rattle.directive_find.specs.declared.finding.FoundOut.TheVariants.{Events, Passes}
 use Rattle.choices.proofs.laws.FewMoments.{moments-few}
@@ -32,12 +32,9 @@ reduce-requires-clause-leads g c κs within =
     record {
       made = c.in_ok-whole.whole.events;
       is_directed =
-          ap (λ (most : ℕ). directed_run c.args.deal.now bodies c.args.order.now
-          c.in_ok-moments.moments most) c.new-limit.ensures
-          ∙ ap (λ ms. directed_run c.args.deal.now bodies c.args.order.now ms
-          c.args.limit) all
+          ap (λ ms. directed_run c.args.deal.now bodies c.args.order.now ms c.new-limit.result) all
           ∙ found-run c.args.deal.now bodies c.args.order.now c.args.points.now
-          c.args.limit c.in_ok-whole.whole.events c.in_ok-whole.whole.verdict c.requires.order
+          c.new-limit.result c.in_ok-whole.whole.events c.in_ok-whole.whole.verdict c.requires.order
           (sym c.requires.whole) c.in_ok-whole.ensures.code;
       number = c.len-steps.ensures;
     }
@@ -48,12 +45,13 @@ returns-then-is g c = λ script of.
     let code = listing c.args.code.now in
     let order = c.args.order.now in
     let points = c.args.points.now in
-    let B : List Pending → Type 0 = λ bodies. Finds deal bodies order points c.args.limit
+    let B : List Pending → ℕ → Type 0 = λ bodies most. Finds deal bodies order points most
     (Passes c.len-steps.result) in
-    subst B (code_bodies script code of.is_code)
-    (made-pass deal (bodies_of_code code) order c.args.limit points c.in_ok-whole.whole.events
+    subst (B (bodies_of script)) c.new-limit.ensures
+    (subst (λ bodies. B bodies c.new-limit.result) (code_bodies script code of.is_code)
+    (made-pass deal (bodies_of_code code) order c.new-limit.result points c.in_ok-whole.whole.events
     c.in_ok-whole.whole.verdict c.len-steps.result c.requires.order c.requires.whole
-    c.in_ok-whole.ensures.code (c.is.ensures.0 c.if-is.true) c.len-steps.ensures)
+    c.in_ok-whole.ensures.code (c.is.ensures.0 c.if-is.true) c.len-steps.ensures))
 
 pub returns : goal.returns
 returns g c = λ script of.
@@ -65,12 +63,12 @@ returns g c = λ script of.
     let short = c.in_ok-short.short in
     let all = c.in_ok-moments.ensures ∙ ap (λ es. moments_of (schedule_of es) points)
     c.as_slice.ensures in
-    let B : List Pending → Type 0 = λ bodies. Finds deal bodies order points c.args.limit
+    let B : List Pending → ℕ → Type 0 = λ bodies most. Finds deal bodies order points most
     (Events short.moments whole.verdict short.steps) in
-    subst B (code_bodies script code of.is_code)
-    (made-found deal (bodies_of_code code) order c.args.limit points whole.events whole.verdict
+    subst (B (bodies_of script)) c.new-limit.ensures
+    (subst (λ bodies. B bodies c.new-limit.result) (code_bodies script code of.is_code)
+    (made-found deal (bodies_of_code code) order c.new-limit.result points whole.events whole.verdict
     c.in_ok-moments.moments short c.requires.order c.requires.whole c.requires.points
     c.in_ok-whole.ensures.few c.in_ok-whole.ensures.code
     (λ same. let told = c.is.ensures.1 same in let other = c.if-is.false in cc) all
-    (subst (λ (most : ℕ). IsReduced deal (bodies_of_code code) order most whole.verdict
-    c.in_ok-moments.moments short) c.new-limit.ensures c.in_ok-short.ensures))
+    c.in_ok-short.ensures))

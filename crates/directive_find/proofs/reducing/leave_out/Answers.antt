@@ -1,5 +1,5 @@
 -- Each moment is needed so far, or is left out.
-use Rattle.std.proofs.Common.{ℕ, arith, ap, sym, ◌∙◌}
+use Rattle.std.proofs.Common.{arith, ap, sym, ◌∙◌}
 use Rattle.script_code.specs.Listing.{listing}
 use Rattle.worker_run.specs.Run.{directed_run}
 use Rattle.script_run.specs.Ready.{bodies_of_code}
@@ -15,11 +15,9 @@ returns-then-is-clause-leaves g c =
     c.in_ok-whole.whole.verdict
     c.in_ok-rest.ensures (ap (λ es. directed_run ready.deal.now bodies c.args.order.now
     es c.args.limit) (sym c.as_slice-left.ensures)
-    ∙ ap (λ (most : ℕ). directed_run ready.deal.now bodies c.args.order.now
-    c.as_slice-left.result.now most) (sym c.steps-most.ensures.number)
     ∙ c.in_ok-whole.ensures.code)
-    c.loop-place.invariant c.len-steps.result c.loop-place-test.true
-    (c.is.ensures.0 c.if-is.true) c.len-steps.ensures
+    c.loop-place.invariant c.step_count-steps.result c.loop-place-test.true
+    (c.is.ensures.0 c.if-is.true) c.step_count-steps.ensures
 
 pub loop-place-preserved : goal.loop-place-preserved
 loop-place-preserved g c =
@@ -30,8 +28,6 @@ loop-place-preserved g c =
     c.in_ok-whole.whole.verdict
     c.in_ok-rest.ensures (ap (λ es. directed_run ready.deal.now bodies c.args.order.now
     es c.args.limit) (sym c.as_slice-left.ensures)
-    ∙ ap (λ (most : ℕ). directed_run ready.deal.now bodies c.args.order.now
-    c.as_slice-left.result.now most) (sym c.steps-most.ensures.number)
     ∙ c.in_ok-whole.ensures.code)
     c.loop-place.invariant
     (λ same. let told = c.is.ensures.1 same in let other = c.if-is.false in cc)

@@ -13,20 +13,20 @@ verdict-verdict-requires c = let run = (c.requires.run.1).run in (run.verdict, r
 
 pub returns-then-many-most : goal.returns-then-many-most
 returns-then-many-most c = λ order is.
-    let setup = directed_setup c.args.task.now in
+    let setup = directed_setup c.args.claim.now in
     let all = setup.directive.events in
     let made = c.args.played.now.events in
     let verdict = c.verdict-verdict.result in
     let ran =
     ended-run (run_of_order setup order) made c.args.played.now.outcome verdict is.run
     c.verdict-verdict.ensures in
-    too-long setup.deal setup.bodies order all all setup.steps setup.limit c.len-many.result
-    made verdict refl ran c.len-many.ensures
+    too-long setup.deal setup.bodies order all all setup.steps setup.limit c.step_count-many.result
+    made verdict refl ran c.step_count-many.ensures
     (omega (arith, c.if-many-most.true, c.steps-most.ensures.number))
 
 pub returns-then-not-is : goal.returns-then-not-is
 returns-then-not-is c = λ order is.
-    let setup = directed_setup c.args.task.now in
+    let setup = directed_setup c.args.claim.now in
     let all = setup.directive.events in
     let made = c.args.played.now.events in
     let verdict = c.verdict-verdict.result in
@@ -39,11 +39,11 @@ returns-then-not-is c = λ order is.
     cc in
     other setup.deal setup.bodies order all all setup.directive.verdict verdict setup.steps
     setup.limit made refl ran apart
-    (omega (arith, c.len-many.ensures, c.if-many-most.false, c.steps-most.ensures.number))
+    (omega (arith, c.step_count-many.ensures, c.if-many-most.false, c.steps-most.ensures.number))
 
 pub returns : goal.returns
 returns c = λ order is.
-    let setup = directed_setup c.args.task.now in
+    let setup = directed_setup c.args.claim.now in
     let all = setup.directive.events in
     let made = c.args.played.now.events in
     let verdict = c.verdict-verdict.result in
@@ -53,7 +53,7 @@ returns c = λ order is.
     c.verdict-verdict.ensures in
     pointed setup.deal setup.bodies order all all setup.directive.verdict verdict setup.steps
     setup.limit made c.in_ok-points_of.field-0 refl ran (c.is.ensures.0 c.if-not-is.false)
-    (omega (arith, c.len-many.ensures, c.if-many-most.false, c.steps-most.ensures.number))
+    (omega (arith, c.step_count-many.ensures, c.if-many-most.false, c.steps-most.ensures.number))
     (c.in_ok-points_of.ensures
     ∙ ap (λ es. points_of (schedule_of es) c.steps-most.result moments) c.as_slice.ensures
     ∙ ap (λ s. points_of (schedule_of made) s moments) c.steps-most.ensures.number

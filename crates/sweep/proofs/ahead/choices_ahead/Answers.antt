@@ -4,7 +4,7 @@ use Rattle.std.specs.List.{All}
 use Rattle.std.proofs.lemmas.List.Elements.{All-append, All-nil}
 use Rattle.std.proofs.Common.{◌+◌, inl, inr, zero, suc}
 use Rattle.std.proofs.lemmas.Bool.{cases_lt}
-use Rattle.sweep.specs.Batches.{setup_of_task, AreAhead}
+use Rattle.sweep.specs.Batches.{setup_of_sweep, AreAhead}
 use Rattle.sweep.proofs.Aheads.{nothing-ahead, passed-by, taken-on}
 use Rattle.sweep.proofs.ahead.choices_ahead.Goals.{then-stands_for-gt0, else-stands_for-gt0}
 use Rattle.sweep.proofs.ahead.choices_ahead.Goals.{then-choices-test+else-len-most}
@@ -21,15 +21,15 @@ choices-init c =
     record {
       room = made.exact;
       few = omega (arith, made.len);
-      within = subst (All (λ place. place < c.args.task.now.choices)) (sym made.items)
-          (All-nil (λ place. place < c.args.task.now.choices));
+      within = subst (All (λ place. place < c.args.sweep.now.choices)) (sym made.items)
+          (All-nil (λ place. place < c.args.sweep.now.choices));
       end = omega (arith, c.requires.within);
       from = omega arith;
       begins = λ same. made.len;
       ahead =
-          subst (λ l. AreAhead (setup_of_task c.args.task.now) c.args.reach.longest
+          subst (λ l. AreAhead (setup_of_sweep c.args.sweep.now) c.args.reach.longest
           c.args.reach.place l c.args.reach.place) (sym made.items)
-          (nothing-ahead (setup_of_task c.args.task.now) c.args.reach.longest
+          (nothing-ahead (setup_of_sweep c.args.sweep.now) c.args.reach.longest
           c.args.reach.place);
     }
 
@@ -40,7 +40,7 @@ push_reserved-requires c =
 pub choices-preserved : goal.choices-preserved
 choices-preserved c =
     let at = c.choices in
-    let task = c.args.task.now in
+    let sweep = c.args.sweep.now in
     elim c.if-stands_for-gt0.branch [
       | then-stands_for-gt0 w ↦
           let pushed = w.push_reserved.ensures in
@@ -56,16 +56,16 @@ choices-preserved c =
               c.len.ensures,
             );
             within =
-                subst (All (λ place. place < task.choices)) (sym items)
-                (All-append (λ place. place < task.choices) at.places.items (at.end ∷ [])
-                at.invariant.within (one-place task.choices at.end c.choices-test.true));
+                subst (All (λ place. place < sweep.choices)) (sym items)
+                (All-append (λ place. place < sweep.choices) at.places.items (at.end ∷ [])
+                at.invariant.within (one-place sweep.choices at.end c.choices-test.true));
             end = omega (arith, c.choices-test.true);
             from = omega (arith, at.invariant.from);
             begins = λ same. absurd (omega (arith, same, at.invariant.from));
             ahead =
-                subst (λ l. AreAhead (setup_of_task task) c.args.reach.longest
+                subst (λ l. AreAhead (setup_of_sweep sweep) c.args.reach.longest
                 c.args.reach.place l (at.end + 1)) (sym items)
-                (taken-on (setup_of_task task) c.args.reach.longest c.args.reach.place
+                (taken-on (setup_of_sweep sweep) c.args.reach.longest c.args.reach.place
                 at.end at.places.items at.invariant.ahead);
           }
       | else-stands_for-gt0 w ↦
@@ -74,14 +74,14 @@ choices-preserved c =
           record {
             room = ap (λ v. v.cap) w.places-is ∙ at.invariant.room;
             few = omega (arith, ap (λ v. v.len) w.places-is, at.invariant.few);
-            within = subst (All (λ place. place < task.choices)) (sym items) at.invariant.within;
+            within = subst (All (λ place. place < sweep.choices)) (sym items) at.invariant.within;
             end = omega (arith, c.choices-test.true);
             from = omega (arith, at.invariant.from);
             begins = λ same. absurd (omega (arith, same, at.invariant.from));
             ahead =
-                subst (λ l. AreAhead (setup_of_task task) c.args.reach.longest
+                subst (λ l. AreAhead (setup_of_sweep sweep) c.args.reach.longest
                 c.args.reach.place l (at.end + 1)) (sym items)
-                (passed-by (setup_of_task task) c.args.reach.longest c.args.reach.place
+                (passed-by (setup_of_sweep sweep) c.args.reach.longest c.args.reach.place
                 at.end at.places.items at.invariant.ahead
                 (λ choice there. omega (
                   arith,

@@ -7,9 +7,10 @@ use Rattle.sweep.proofs.ahead.stands_for.Goals as goal
 
 pub returns : goal.returns
 returns c = λ choice at.
-    let task = c.args.task.now in
-    let there = points-there task.script.deal.now.threads task.steps task.points c.args.place choice
-    task.some_steps c.requires at in
+    let sweep = c.args.sweep.now in
+    let there = points-there sweep.script.deal.now.threads sweep.steps sweep.points c.args.place
+    choice
+    sweep.some_steps c.requires at in
     c.weight_at.ensures choice.points
-    (subst (λ n. slice_get (pointlists task.steps task.points) (c.args.place % n)
+    (subst (λ n. slice_get (pointlists sweep.steps sweep.points) (c.args.place % n)
     ≡ Some choice.points) (sym c.list_count-lists.ensures) there)

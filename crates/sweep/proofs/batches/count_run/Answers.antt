@@ -5,7 +5,7 @@ use Rattle.worker_run.specs.Run.{Run}
 use Rattle.std.proofs.Common.{Option, Some}
 use Rattle.sweep.specs.Weights.{weight, spread, often_in}
 use Rattle.sweep.specs.Rows.{choices_of}
-use Rattle.sweep.specs.Batches.{setup_of_task}
+use Rattle.sweep.specs.Batches.{setup_of_sweep}
 use Rattle.sweep.proofs.Steps.{pass-by, run-counted, run-fits}
 use Rattle.sweep.proofs.batches.count_run.Goals as goal
 
@@ -16,11 +16,11 @@ verdict-requires c =
 
 pub add_copies-requires : goal.add_copies-requires
 add_copies-requires c =
-    let task = c.args.task.now in
-    let setup = setup_of_task task in
+    let sweep = c.args.sweep.now in
+    let setup = setup_of_sweep sweep in
     let is = c.requires.run in
-    let before = pass-by setup task.some_steps c.args.reach c.args.tally.now c.args.place
-    c.requires.ahead (omega (arith, c.requires.place, task.whole))
+    let before = pass-by setup sweep.some_steps c.args.reach c.args.tally.now c.args.place
+    c.requires.ahead (omega (arith, c.requires.place, sweep.whole))
     c.requires.above c.requires.before in (
       spread (often_in setup) setup 0 (take c.args.place (choices_of setup)),
       before.counted,
@@ -32,27 +32,27 @@ add_copies-requires c =
             (Some ran) = sym is.run.steps ∙ made in
             let same : ◌≡◌ {A = Run} (c.args.played.now.events, is.run.verdict) ran = cc in
             c.stands_for.ensures is.choice is.at
-            ∙ ap (λ n. weight task.steps n is.choice.points)
+            ∙ ap (λ n. weight sweep.steps n is.choice.points)
             (c.max.ensures ∙ ap (λ n. max n 1)
-            (c.len-steps.ensures ∙ ap (λ (r : Run). length r.0) same))),
-        task.few_choices,
+            (c.step_count-steps.ensures ∙ ap (λ (r : Run). length r.0) same))),
+        sweep.few_choices,
       ),
     )
 
 pub returns-clause-counted : goal.returns-clause-counted
 returns-clause-counted c =
-    let task = c.args.task.now in
-    let setup = setup_of_task task in
+    let sweep = c.args.sweep.now in
+    let setup = setup_of_sweep sweep in
     let is = c.requires.run in
     let here = record c.args.reach { place = c.args.place } in
-    let before = pass-by setup task.some_steps c.args.reach c.args.tally.now c.args.place
-    c.requires.ahead (omega (arith, c.requires.place, task.whole))
+    let before = pass-by setup sweep.some_steps c.args.reach c.args.tally.now c.args.place
+    c.requires.ahead (omega (arith, c.requires.place, sweep.whole))
     c.requires.above c.requires.before in
     let rows = spread (often_in setup) setup 0 (take c.args.place (choices_of setup)) in
     run-counted setup here _ c.args.tally.now c.add_copies.new.tally c.args.played.now _
-    c.stands_for.result is before c.from.ensures c.len-steps.ensures c.verdict.ensures
+    c.stands_for.result is before c.from.ensures c.step_count-steps.ensures c.verdict.ensures
     (c.stands_for.ensures is.choice is.at
-    ∙ ap (λ n. weight task.steps n is.choice.points)
-    (c.max.ensures ∙ ap (λ n. max n 1) c.len-steps.ensures))
+    ∙ ap (λ n. weight sweep.steps n is.choice.points)
+    (c.max.ensures ∙ ap (λ n. max n 1) c.step_count-steps.ensures))
     (c.in_ok-add_copies.ensures rows before.counted) refl
-    (c.max-2.ensures ∙ ap (λ n. max c.args.reach.longest n) c.len-steps.ensures)
+    (c.max-2.ensures ∙ ap (λ n. max c.args.reach.longest n) c.step_count-steps.ensures)

@@ -1,10 +1,11 @@
 -- All choices are counted.
-use Rattle.std.proofs.Common.{List, subst, ◌∙◌, arith}
+use Rattle.std.proofs.Common.{ℕ, List, sym, subst, ◌∙◌, arith}
 use Rattle.pct_ask.specs.declared.verdict.Verdict.TheVariants.{Passed}
 use Rattle.pct_ask.specs.Bodies.{Pending}
 use Rattle.script_code.specs.Listing.{listing}
 use Rattle.script_body.proofs.laws.ScriptBodies.{code_bodies}
 use Rattle.script_run.specs.Ready.{bodies_of_code}
+use Rattle.sweep.specs.Batches.{HasCounted}
 use Rattle.sweep.specs.Rows.{Setup, choices_of}
 use Rattle.sweep.specs.Swept.{Sweeps}
 use Rattle.sweep.specs.declared.sweeping.Answer.TheVariants.{Whole}
@@ -35,13 +36,29 @@ pub count_ahead-requires-clause-some : goal.count_ahead-requires-clause-some
 count_ahead-requires-clause-some g c κs inside = c.batches.invariant.some
 
 pub count_ahead-requires-clause-before : goal.count_ahead-requires-clause-before
-count_ahead-requires-clause-before g c κs inside = c.batches.invariant.counted
+count_ahead-requires-clause-before g c κs inside =
+    subst (λ most. HasCounted (record {
+      deal = c.args.deal.now;
+      bodies = bodies_of_code (listing c.args.code.now);
+      many = c.args.points;
+      steps = c.args.steps;
+      limit = most;
+    }) c.batches.counts.reach c.batches.counts.tally)
+    (sym c.new.ensures) c.batches.invariant.counted
 
 pub batches-preserved : goal.batches-preserved
 batches-preserved g c = record {
   within = c.in_ok-count_ahead.ensures.within;
   some = c.next_size-size.ensures;
-  counted = c.in_ok-count_ahead.ensures.counted;
+  counted =
+      subst (λ most. HasCounted (record {
+        deal = c.args.deal.now;
+        bodies = bodies_of_code (listing c.args.code.now);
+        many = c.args.points;
+        steps = c.args.steps;
+        limit = most;
+      }) c.count_ahead.new.counts.reach c.count_ahead.new.counts.tally)
+      c.new.ensures c.in_ok-count_ahead.ensures.counted;
 }
 
 pub batches-smaller : goal.batches-smaller
@@ -52,25 +69,25 @@ batches-smaller g c =
 pub returns : goal.returns
 returns g c = λ script of.
     let code = listing c.args.code.now in
-    let setup : List Pending → Setup = λ bodies. record {
+    let setup : List Pending → ℕ → Setup = λ bodies most. record {
       deal = c.args.deal.now;
       bodies = bodies;
       many = c.args.points;
       steps = c.args.steps;
-      limit = c.args.limit;
+      limit = most;
     } in
-    let coded = setup (bodies_of_code code) in
+    let coded = setup (bodies_of_code code) c.args.limit in
     let told = c.in-Some.ensures in
     let counts = c.batches.counts in
     let rows = spread (often_in coded) coded 0 (choices_of coded) in
     let all = all-counted coded counts.reach counts.tally c.batches.invariant.counted
     (omega (arith, told.0, c.batches-test.false)) in
-    let B : List Pending → Type 0 = λ bodies. Sweeps (setup bodies) (Whole (record {
+    let B : List Pending → ℕ → Type 0 = λ bodies most. Sweeps (setup bodies most) (Whole (record {
       choices = c.in-Some.choices;
       passed = c.passed-passed.result;
       groups = c.in_ok-groups.groups;
     })) in
-    subst B (code_bodies script code of.is_code) (
+    subst (λ bodies. B bodies c.args.limit) (code_bodies script code of.is_code) (
       told.1,
       record {
         choices = told.0;

@@ -14,7 +14,7 @@ invariant-batches g l = record {
     bodies = bodies_of_code (listing l.code);
     many = l.points;
     steps = l.steps;
-    limit = l.limit;
+    limit = l.fn.limit;
   }) l.counts.reach l.counts.tally;
 }
 

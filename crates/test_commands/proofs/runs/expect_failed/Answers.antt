@@ -5,5 +5,5 @@ use Rattle.test_commands.proofs.runs.expect_failed.Goals as goal
 pub run_by_points-requires-clause-order : goal.run_by_points-requires-clause-order
 run_by_points-requires-clause-order g c κs within = declared_is_order 3
 
-pub run_by_events-requires-clause-order : goal.run_by_events-requires-clause-order
-run_by_events-requires-clause-order g c κs within = declared_is_order 3
+pub run_by_moments-requires-clause-order : goal.run_by_moments-requires-clause-order
+run_by_moments-requires-clause-order g c κs within = declared_is_order 3

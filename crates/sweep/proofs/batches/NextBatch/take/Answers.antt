@@ -1,7 +1,7 @@
 -- The next of the choices is counted.
 use Rattle.std.proofs.Common.{Some, sym, ap, subst, ◌∙◌, arith}
 use Rattle.std.proofs.lemmas.Option.{slice_get-get_or}
-use Rattle.sweep.specs.Batches.{setup_of_task, AreAbove}
+use Rattle.sweep.specs.Batches.{setup_of_sweep, AreAbove}
 use Rattle.sweep.proofs.Aheads.{next-ahead}
 use Rattle.sweep.proofs.batches.NextBatch.take.Goals as goal
 
@@ -9,7 +9,8 @@ pub count_run-requires-clause-ahead : goal.count_run-requires-clause-ahead
 count_run-requires-clause-ahead c =
     let next = c.args.self.now in
     let before = c.requires.stands in
-    let one = next-ahead (setup_of_task next.task) next.before.longest c.args.counts.now.reach.place
+    let one = next-ahead (setup_of_sweep next.sweep.now) next.before.longest
+    c.args.counts.now.reach.place
     next.ahead.now.end c.args.place c.index-at.result.now next.ahead.now.places.items
     c.requires.place c.index-at.ensures before.ahead in
     one.from_here
@@ -18,7 +19,8 @@ pub count_run-requires-clause-place : goal.count_run-requires-clause-place
 count_run-requires-clause-place c =
     let next = c.args.self.now in
     let before = c.requires.stands in
-    let one = next-ahead (setup_of_task next.task) next.before.longest c.args.counts.now.reach.place
+    let one = next-ahead (setup_of_sweep next.sweep.now) next.before.longest
+    c.args.counts.now.reach.place
     next.ahead.now.end c.args.place c.index-at.result.now next.ahead.now.places.items
     c.requires.place c.index-at.ensures before.ahead in
     omega (arith, one.to_there, next.end)
@@ -26,7 +28,7 @@ count_run-requires-clause-place c =
 pub count_run-requires-clause-above : goal.count_run-requires-clause-above
 count_run-requires-clause-above c =
     let next = c.args.self.now in
-    let setup = setup_of_task next.task in
+    let setup = setup_of_sweep next.sweep.now in
     let before = c.requires.stands in
     let from = c.args.counts.now.reach.place in
     let one = next-ahead setup next.before.longest from next.ahead.now.end c.args.place

@@ -7,28 +7,28 @@ use Rattle.sweep.proofs.batches.NextBatch.test.Goals as goal
 
 pub test_by_points-requires-clause-order : goal.test_by_points-requires-clause-order
 test_by_points-requires-clause-order c =
-    let task = c.args.self.now.task in
-    let listed = listed-choice task.script.deal.now.threads task.steps task.points
+    let sweep = c.args.self.now.sweep.now in
+    let listed = listed-choice sweep.script.deal.now.threads sweep.steps sweep.points
     c.index-at.result.now c.in_ok-choice.choice c.in_ok-choice.ensures in
     subst IsOrder (sym c.as_slice-order.ensures) listed.0.is_order
 
 pub test_by_points-requires-clause-whole : goal.test_by_points-requires-clause-whole
 test_by_points-requires-clause-whole c =
-    let task = c.args.self.now.task in
-    let listed = listed-choice task.script.deal.now.threads task.steps task.points
+    let sweep = c.args.self.now.sweep.now in
+    let listed = listed-choice sweep.script.deal.now.threads sweep.steps sweep.points
     c.index-at.result.now c.in_ok-choice.choice c.in_ok-choice.ensures in
     omega (arith, ap length c.as_slice-order.ensures, listed.0.whole)
 
 pub test_by_points-requires-clause-few_points : goal.test_by_points-requires-clause-few_points
 test_by_points-requires-clause-few_points c =
-    let task = c.args.self.now.task in
-    let listed = listed-choice task.script.deal.now.threads task.steps task.points
+    let sweep = c.args.self.now.sweep.now in
+    let listed = listed-choice sweep.script.deal.now.threads sweep.steps sweep.points
     c.index-at.result.now c.in_ok-choice.choice c.in_ok-choice.ensures in
-    omega (arith, ap length c.as_slice-points.ensures, listed.1.long, task.few_points)
+    omega (arith, ap length c.as_slice-points.ensures, listed.1.long, sweep.few_points)
 
 pub returns-clause-run : goal.returns-clause-run
 returns-clause-run c =
     let next = c.args.self.now in
     next-tried next c.args.place c.index-at.result.now c.in_ok-choice.choice c.test_by_points.result
-    _ _ (next.task).low_limit c.requires.place c.index-at.ensures c.in_ok-choice.ensures
+    _ _ c.requires.place c.index-at.ensures c.in_ok-choice.ensures
     c.as_slice-order.ensures c.as_slice-points.ensures c.test_by_points.ensures.run

@@ -2,31 +2,31 @@
 use Rattle.std.proofs.Common.{◌≡◌, length, refl, sym, ap, subst, ◌∙◌, arith}
 use Rattle.pct_ask.specs.declared.event.Row.{Row}
 use Rattle.campaign.specs.Rows.{seed_at}
-use Rattle.campaign.specs.Batches.{setup_of_task, IsSeedRun}
+use Rattle.campaign.specs.Batches.{setup_of_campaign, IsSeedRun}
 use Rattle.campaign.proofs.Rows.{next-row}
 use Rattle.campaign.proofs.Runs.{run-row}
-use Rattle.campaign.proofs.batches.TaskBatch.take.Goals as goal
+use Rattle.campaign.proofs.batches.CampaignBatch.take.Goals as goal
 
 pub verdict-requires : goal.verdict-requires
 verdict-requires c = let run = (c.requires.run).run in (run.verdict, run.ends)
 
 pub returns : goal.returns
 returns c =
-    let task = c.args.self.now in
-    let setup = setup_of_task task in
+    let campaign = c.args.self.now in
+    let setup = setup_of_campaign campaign in
     let rows = c.args.rows.now in
     let before = c.requires.stands in
     let pushed = c.push_reserved.ensures in
     let seed = c.seed_at.result in
-    let row : Row = record { seed = seed; steps = c.len.result; verdict = c.verdict.result } in
+    let row : Row = record { seed = seed; steps = c.step_count.result; verdict = c.verdict.result } in
     let is = subst (λ s. IsSeedRun setup s c.args.played.now) (sym c.seed_at.ensures)
     c.requires.run in
-    let here : seed ≡ seed_at task.first (length rows.items) =
-    c.seed_at.ensures ∙ ap (seed_at task.first) (sym before.long) in
+    let here : seed ≡ seed_at campaign.first (length rows.items) =
+    c.seed_at.ensures ∙ ap (seed_at campaign.first) (sym before.long) in
     record {
       long = omega (arith, pushed.len, before.long);
       room = pushed.capacity ∙ before.room;
-      are = next-row setup task.first seed rows.items c.push_reserved.new.self.items row here
+      are = next-row setup campaign.first seed rows.items c.push_reserved.new.self.items row here
           before.are pushed.items
-          (run-row setup seed c.args.played.now row is refl c.len.ensures c.verdict.ensures);
+          (run-row setup seed c.args.played.now row is refl c.step_count.ensures c.verdict.ensures);
     }

@@ -3,22 +3,21 @@ ghost use Rattle.std.specs.Prelude.{◌≡◌, ◌≤◌};
 ghost use Rattle.sweep.specs.Choices.{choice_count, most_choices};
 ghost use Rattle.pct_ask.specs.declared.limits.TheConstants.{MAX_POINTS, MAX_STEPS};
 
+use pct_ask::Limit;
 use script_run::ReadyScript;
 
 /// What the runs of a sweep have in common: a script, how many change points a run has, from how
 /// many steps they are, and how many steps a run may have; and how many choices there are.
 #[derive(Clone, Copy)]
-pub struct Task<'a> {
+pub struct Sweep<'a> {
     pub script: ReadyScript<'a>,
     pub points: u32,
     pub steps: u32,
-    pub limit: u32,
+    pub limit: Limit,
     pub choices: u32,
     ghost few_points: { points ≤ MAX_POINTS },
     ghost some_steps: { 1 ≤ steps },
     ghost few_steps: { steps ≤ MAX_STEPS },
-    ghost some_limit: { 1 ≤ limit },
-    ghost low_limit: { limit ≤ MAX_STEPS },
     ghost whole: { choices ≡ choice_count script.deal.now.threads steps points },
     ghost few_choices: { choice_count script.deal.now.threads steps points ≤ most_choices },
 }

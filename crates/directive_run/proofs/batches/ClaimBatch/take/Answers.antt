@@ -6,7 +6,7 @@ use Rattle.choices.specs.Orders.{low_orders}
 use Rattle.directive_run.specs.Tested.{directed_setup}
 use Rattle.directive_run.specs.declared.answers.CertifyRow.{CertifyRow}
 use Rattle.directive_run.proofs.Certificates.{refuted, too-long-under, next-row}
-use Rattle.directive_run.proofs.batches.TaskBatch.take.Goals as goal
+use Rattle.directive_run.proofs.batches.ClaimBatch.take.Goals as goal
 
 pub test_run-requires : goal.test_run-requires
 test_run-requires c =
@@ -15,27 +15,27 @@ test_run-requires c =
 
 pub returns-in-Other : goal.returns-in-Other
 returns-in-Other c =
-    let task = c.args.self.now in
-    let setup = directed_setup task in
+    let claim = c.args.self.now in
+    let setup = directed_setup claim in
     let order = c.in_ok-order.order in
     let is = c.in_ok-order.ensures in
     let before = c.requires.stands in
     let all = low_orders setup.deal.threads setup.directive.low in
     refuted setup.deal setup.bodies setup.directive setup.steps setup.limit c.args.rows.now order
-    c.in_ok-points.field-0 c.in-Other.verdict task.low task.few_threads
+    c.in_ok-points.field-0 c.in-Other.verdict claim.low claim.few_threads
     (ap (slice_get all) before.long ∙ is) before.are
     (c.in_ok-points.ensures order (c.requires.run order is)) c.in-Other.is
 
 pub returns-in-TooLong : goal.returns-in-TooLong
 returns-in-TooLong c =
-    let task = c.args.self.now in
-    let setup = directed_setup task in
+    let claim = c.args.self.now in
+    let setup = directed_setup claim in
     let order = c.in_ok-order.order in
     let is = c.in_ok-order.ensures in
     let before = c.requires.stands in
     let all = low_orders setup.deal.threads setup.directive.low in
     too-long-under setup.deal setup.bodies setup.directive setup.steps setup.limit c.args.rows.now
-    order c.in_ok-points.field-0 c.in-TooLong.steps task.low task.few_threads
+    order c.in_ok-points.field-0 c.in-TooLong.steps claim.low claim.few_threads
     (ap (slice_get all) before.long ∙ is) before.are
     (c.in_ok-points.ensures order (c.requires.run order is)) c.in-TooLong.is
 

@@ -9,7 +9,7 @@ use script_run::ReadyScript;
 /// What is to be certified: a directive of a script's threads, within how many steps it is to lead
 /// to its verdict, and how many a run may have.
 #[derive(Clone, Copy)]
-pub struct Task<'a, 'd> {
+pub struct Claim<'a, 'd> {
     pub script: ReadyScript<'a>,
     pub directive: &'d Directive,
     pub steps: Limit,

@@ -1,0 +1,34 @@
+-- The test's run is that of the order and the points that the seed draws.
+use Rattle.std.proofs.Common.{◌≡◌, ℕ, ◌+◌, ◌-◌, ◌*◌, ap, refl, subst, sym, ◌∙◌, arith}
+use Rattle.rank_now.specs.Order.{IsOrder}
+use Rattle.priority_draw.specs.Words.{words_later}
+use Rattle.priority_draw.specs.Drawing.{drawn_points, draw_of_seed}
+use Rattle.campaign.specs.Batches.{setup_of_campaign}
+use Rattle.campaign.proofs.Runs.{seed-tried}
+use Rattle.campaign.proofs.batches.CampaignBatch.test.Goals as goal
+
+pub test_by_points-requires-clause-order : goal.test_by_points-requires-clause-order
+test_by_points-requires-clause-order c =
+    subst IsOrder (sym c.as_slice-order.ensures) c.in_ok-order.ensures.order.is_order
+
+pub returns-clause-run : goal.returns-clause-run
+returns-clause-run c =
+    let campaign = c.args.self.now in
+    let seed = c.seed_at.result in
+    let threads = campaign.script.deal.now.threads in
+    let gives = draw_of_seed seed threads campaign.steps campaign.depth in
+    let first = c.of_seed-words.ensures in
+    let order : c.as_slice-order.result.now ≡ gives.order =
+    c.as_slice-order.ensures ∙ c.in_ok-order.ensures.of_seed seed campaign.steps campaign.depth
+    first in
+    let then = c.in_ok-order.ensures.words ∙ ap (λ w. words_later w (2 * threads)) first in
+    let count = c.points.result in
+    let many : count + 1 - 1 ≡ campaign.depth - 1 = omega (arith, c.points.ensures.number) in
+    let points : c.as_slice-points.result.now ≡ gives.points =
+    c.as_slice-points.ensures
+    ∙ c.in_ok-points.ensures.of_seed seed threads (count + 1) then refl
+    ∙ ap (λ (steps : ℕ). drawn_points seed (2 * threads) steps (count + 1 - 1))
+    c.steps.ensures.number
+    ∙ ap (λ (many : ℕ). drawn_points seed (2 * threads) campaign.steps many) many in
+    seed-tried (setup_of_campaign campaign) seed _ c.test_by_points.result _ _ order points
+    c.seed_at.ensures c.test_by_points.ensures.run
