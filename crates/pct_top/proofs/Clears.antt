@@ -7,6 +7,7 @@ use Rattle.std.proofs.Common.{arith}
 use Rattle.std.proofs.Math.Nat.{mul-le-mul_left}
 use Rattle.std.proofs.lemmas.Bool.{cases_lt}
 use Rattle.std.proofs.lemmas.Bool.Decides.{nat_tests}
+use Rattle.std.proofs.lemmas.Result.{IfOk-at_ok}
 use Rattle.pct_ask.specs.declared.Deal.{Deal}
 use Rattle.pct_ask.specs.declared.verdict.Verdict.{Verdict}
 use Rattle.script_tree.specs.ScriptText.{ScriptText}
@@ -29,7 +30,7 @@ use Rattle.sweep.proofs.Laws.{sweeps_counted, some-power, some-orders}
 use Rattle.pct_top.specs.declared.refusal.Refusal.TheVariants.{Script}
 use Rattle.pct_top.specs.declared.settings.Settings.TheVariants.{Sweep}
 use Rattle.pct_top.specs.declared.status.Status.TheVariants.{Done}
-use Rattle.pct_top.specs.Settings.{SettingsOrWord}
+use Rattle.pct_top.specs.Settings.{SettingsOrWord, AreLawful}
 use Rattle.pct_top.specs.Printed.{Files, Printed, printed_text, script_bytes}
 use Rattle.pct_top.specs.Runs.{DrawsFrom}
 use Rattle.pct_top.specs.Output.{OfTaken}
@@ -41,7 +42,7 @@ use Rattle.pct_top.specs.commands.Sweep.{OfChoices, OfSweep}
 use Rattle.pct_top.specs.Cleared.{EveryRunPasses, TellsChoices, IsSwept, SweptAreCleared}
 use Rattle.pct_top.specs.Cleared.{TellsAtLeast, CertifiedAreSwept}
 use Rattle.pct_top.proofs.Counts.{certified_counted}
-use Rattle.pct_top.proofs.OptionRanges.{words-lawful}
+use Rattle.pct_top.proofs.OptionRanges.{words_lawful}
 use Rattle.pct_top.proofs.Refusals.{not_refused}
 use Rattle.pct_top.proofs.Work.{named_script}
 
@@ -239,7 +240,7 @@ certified_swept words more files printed other file directive depth k limit json
     taken sweeps =
     let c = certified_counted words files printed file directive k limit certifies of done in
     let bytes = take script_bytes (files file) in
-    let lawful = words-lawful more (Sweep file depth (Some k) limit json serve) taken in
+    let lawful = IfOk-at_ok AreLawful taken (words_lawful more) in
     let step : 1 ≤ k = lawful.1.0 in
     let swept = named_script bytes (OfSweep depth (Some k) limit json) c.script c.deal c.spelled
     c.deals other (subst (λ (t : SettingsOrWord). OfTaken t files other) taken sweeps) in

@@ -17,7 +17,7 @@ use Rattle.pct_top.specs.declared.refusal.Refusal.TheVariants.{Directive as BadD
 use Rattle.pct_top.specs.declared.refusal.Refusal.TheVariants.{Write, Memory}
 use Rattle.pct_top.specs.declared.outcome.Outcome.{Outcome}
 use Rattle.pct_top.specs.declared.settings.Settings.{Settings}
-use Rattle.pct_top.specs.declared.test.Test.{Test}
+use Rattle.pct_top.specs.declared.test.ReadyTest.{ReadyTest}
 use Rattle.pct_top.specs.Ready.{IsReadyTest}
 use Rattle.pct_top.specs.Ordered.{NamesAll, GivesOrder}
 use Rattle.pct_top.specs.Printed.{Files, Printed, printed_refusal, trace_bytes, directive_bytes}
@@ -187,7 +187,7 @@ module _ (told : Option Files) (source : Files → List ℕ)
   comes_untested m therefore Write h = absurd h
   comes_untested m therefore Memory h = tt
 
-  module _ (test : Test)
+  module _ (test : ReadyTest)
       (spells : HasText told source (λ bytes. Spells bytes (plain_script test.script)))
       (ready : IsReadyTest test) where
     shown : (printed : Printed)
@@ -243,7 +243,7 @@ module _ (source : List ℕ) (over : ScriptText → Deal → Printed → Type 0)
   given_untested Write h = absurd h
   given_untested Memory h = tt
 
-  module _ (test : Test) (spells : Spells source (plain_script test.script))
+  module _ (test : ReadyTest) (spells : Spells source (plain_script test.script))
       (ready : IsReadyTest test) where
     given : (printed : Printed) → over (plain_script test.script) test.deal printed
         → OfScript source over printed
@@ -288,7 +288,7 @@ second_missed settings before after middle script spells keeps h =
 module _ (settings : Settings) (name : List ℕ) (file_is : script_file settings ≡ Some name) where
   -- what is read is what the settings ask for
   pub file_gives : script_text settings ≡ (λ files. take script_bytes (files name))
-      → (told : Option Files) (failed failed' : List (List ℕ)) (r : Result Test Refusal)
+      → (told : Option Files) (failed failed' : List (List ℕ)) (r : Result ReadyTest Refusal)
       → GivesTest told (λ files. take script_bytes (files name))
       (Misses (Some name) failed failed') r
       → GivesTest told (script_text settings) (Misses (script_file settings) failed failed') r

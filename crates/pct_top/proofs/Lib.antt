@@ -1,7 +1,7 @@
 mod KnownRuns
+mod Followed
 mod OptionLists
 mod OptionRanges
-mod OptionSettings
 mod Draws
 mod Replies
 mod Deals

@@ -1,42 +1,34 @@
 -- The options of a list of words, two by two.
 use Rattle.std.proofs.Common.{◌≡◌, ℕ, ◌+◌, ◌≤◌, Bool, true, false, cond, ◌&&◌, List, ◌∷◌, Option}
 use Rattle.std.proofs.Common.{Some, None, Ok, refl, ap, subst, ◌∙◌, arith}
-use Rattle.std.specs.Prelude.{is_some, is_none}
-use Rattle.std.specs.Option.{option_map}
+use Rattle.std.specs.Prelude.{is_some, is_none, ok_or, IfSome}
 use Rattle.std.proofs.lemmas.Bool.{and_parts}
 use Rattle.std.proofs.lemmas.Option.{option_and_then_some, cond_some}
+use Rattle.std.proofs.lemmas.Result.{IfOk-at_ok}
 use Rattle.pct_top.specs.declared.command.Command.{Command}
 use Rattle.pct_top.specs.declared.options.OptionName.{OptionName}
 use Rattle.pct_top.specs.declared.options.OptionName.TheVariants.{Order, Points, Limit, Seed, Depth}
 use Rattle.pct_top.specs.declared.options.OptionName.TheVariants.{Steps, From, Count, Form, Serve}
 use Rattle.pct_top.specs.declared.options.Options.{Options}
-use Rattle.pct_ask.specs.Numbers.{step_count}
-use Rattle.pct_top.specs.Values.{order_in, points_in, seed_in, depth_in, form_in, serve_in}
 use Rattle.pct_top.specs.Options.{is_new, with_option_value, next_option, option_named}
-use Rattle.pct_top.specs.Options.{OptionsOrWord, lawful_or}
-use Rattle.pct_top.specs.Options.{with_option, and_then, options_from, one_if, option_count}
+use Rattle.pct_top.specs.Options.{OptionsOrWord, and_then, options_from, one_if, option_count}
 use Rattle.pct_top.specs.Table.{takes_option}
+use Rattle.pct_top.proofs.Followed.{mapped, or_word, any}
 
 -- ---- one option
 
 pub leaves : (command : Command) (o more : Options) (number : ℕ) (name : OptionName)
     (word value : List ℕ) (texts words : List (List ℕ)) → texts ≡ value ∷ words
     → next_option command o word ≡ Some name
-    → lawful_or (number + 1) (with_option_value o (number + 1) name value) ≡ Ok more
+    → ok_or (with_option_value o (number + 1) name value) (number + 1) ≡ Ok more
     → options_from command o number (word ∷ texts) ≡ options_from command more (number + 2) words
 leaves command o more number name word value texts words same next lawful =
     let further : Options → OptionsOrWord = λ m. options_from command m (number + 2) words in
+    let taken : OptionName → OptionsOrWord = λ n.
+    and_then further (ok_or (with_option_value o (number + 1) n value) (number + 1)) in
     ap (λ t. options_from command o number (word ∷ t)) same
-    ∙ ap (λ n. and_then further (with_option o number value n)) next
+    ∙ ap (λ n. and_then taken (ok_or n number)) next
     ∙ ap (and_then further) lawful
-
--- what holds of each change by a lawful value holds of the changed options
-module _ {A : Type 0} (change : A → Options) (Holds : Options → Type 0) where
-  pub kept : (word : ℕ) (value : Option A) (more : Options)
-      → ((x : A) → value ≡ Some x → Holds (change x))
-      → lawful_or word (option_map change value) ≡ Ok more → Holds more
-  kept word None more each e = absurd cc
-  kept word (Some x) more each e = let same : change x ≡ more = cc in subst Holds same (each x refl)
 
 none : {A : Type 0} (o : Option A) → is_none o ≡ true → one_if (is_some o) ≡ 0
 none None e = refl
@@ -46,39 +38,28 @@ module _ (o : Options) where
   abbrev HasOneMore : Options → Type 0
   HasOneMore more = option_count more ≡ option_count o + 1
 
-  one_more : (name : OptionName) (word : ℕ) (value : List ℕ) (more : Options) → is_new o name ≡ true
-      → lawful_or word (with_option_value o word name value) ≡ Ok more → HasOneMore more
-  one_more Order word value more may =
-      kept (λ items. record o { order = Some (record { items = items; word = word }) }) HasOneMore
-      word (order_in value) more
-      (λ items at. omega (arith, none o.order may))
-  one_more Points word value more may =
-      kept (λ points. record o { points = Some points }) HasOneMore word (points_in value) more
-      (λ points at. omega (arith, none o.points may))
-  one_more Limit word value more may =
-      kept (λ limit. record o { limit = Some limit }) HasOneMore word (step_count value) more
-      (λ limit at. omega (arith, none o.limit may))
-  one_more Seed word value more may =
-      kept (λ seed. record o { seed = Some seed }) HasOneMore word (seed_in value) more
-      (λ seed at. omega (arith, none o.seed may))
-  one_more Depth word value more may =
-      kept (λ depth. record o { depth = Some depth }) HasOneMore word (depth_in value) more
-      (λ depth at. omega (arith, none o.depth may))
-  one_more Steps word value more may =
-      kept (λ steps. record o { steps = Some steps }) HasOneMore word (step_count value) more
-      (λ steps at. omega (arith, none o.steps may))
-  one_more From word value more may =
-      kept (λ from. record o { from = Some from }) HasOneMore word (seed_in value) more
-      (λ from at. omega (arith, none o.from may))
-  one_more Count word value more may =
-      kept (λ many. record o { count = Some many }) HasOneMore word (step_count value) more
-      (λ many at. omega (arith, none o.count may))
-  one_more Form word value more may =
-      kept (λ form. record o { form = Some form }) HasOneMore word (form_in value) more
-      (λ form at. omega (arith, none o.form may))
-  one_more Serve word value more may =
-      kept (λ serve. record o { serve = Some serve }) HasOneMore word (serve_in value) more
-      (λ serve at. omega (arith, none o.serve may))
+  one_more : (name : OptionName) (word : ℕ) (value : List ℕ) → is_new o name ≡ true
+      → IfSome (with_option_value o word name value) HasOneMore
+  one_more Order word value new =
+      mapped HasOneMore _ _ (any _) (λ x u. omega (arith, none o.order new))
+  one_more Points word value new =
+      mapped HasOneMore _ _ (any _) (λ x u. omega (arith, none o.points new))
+  one_more Limit word value new =
+      mapped HasOneMore _ _ (any _) (λ x u. omega (arith, none o.limit new))
+  one_more Seed word value new =
+      mapped HasOneMore _ _ (any _) (λ x u. omega (arith, none o.seed new))
+  one_more Depth word value new =
+      mapped HasOneMore _ _ (any _) (λ x u. omega (arith, none o.depth new))
+  one_more Steps word value new =
+      mapped HasOneMore _ _ (any _) (λ x u. omega (arith, none o.steps new))
+  one_more From word value new =
+      mapped HasOneMore _ _ (any _) (λ x u. omega (arith, none o.from new))
+  one_more Count word value new =
+      mapped HasOneMore _ _ (any _) (λ x u. omega (arith, none o.count new))
+  one_more Form word value new =
+      mapped HasOneMore _ _ (any _) (λ x u. omega (arith, none o.form new))
+  one_more Serve word value new =
+      mapped HasOneMore _ _ (any _) (λ x u. omega (arith, none o.serve new))
 
   new_next : (command : Command) (word : List ℕ) (name : OptionName)
       → next_option command o word ≡ Some name → is_new o name ≡ true
@@ -91,10 +72,11 @@ module _ (o : Options) where
 
   pub counted : (command : Command) (number : ℕ) (name : OptionName) (word value : List ℕ)
       (more : Options) → next_option command o word ≡ Some name
-      → lawful_or number (with_option_value o number name value) ≡ Ok more
+      → ok_or (with_option_value o number name value) number ≡ Ok more
       → option_count more ≡ option_count o + 1
   counted command number name word value more next is =
-      one_more name number value more (new_next command word name next) is
+      IfOk-at_ok HasOneMore is (or_word HasOneMore (with_option_value o number name value) number
+      (one_more name number value (new_next command word name next)))
 
 -- ---- how many there are
 

@@ -16,7 +16,7 @@ use Rattle.pct_top.specs.declared.refusal.Refusal.{Refusal}
 use Rattle.pct_top.specs.declared.refusal.Refusal.TheVariants.{Script, Trace}
 use Rattle.pct_top.specs.declared.refusal.Refusal.TheVariants.{Directive as BadDirective, Read}
 use Rattle.pct_top.specs.declared.refusal.Refusal.TheVariants.{Memory}
-use Rattle.pct_top.specs.declared.test.Test.{Test}
+use Rattle.pct_top.specs.declared.test.ReadyTest.{ReadyTest}
 use Rattle.pct_top.specs.Printed.{Files, trace_bytes, directive_bytes}
 
 -- where the files are told, this text of them has that
@@ -29,7 +29,7 @@ Misses file failed failed' =
     (name : List ℕ) × (file ≡ Some name) × (failed' ≡ names_with failed name)
 
 -- the script that the text spells, or its fault, or a read failed for this cause
-abbrev pub GivesTest : Option Files → (Files → List ℕ) → Type 0 → Result Test Refusal → Type 0
+abbrev pub GivesTest : Option Files → (Files → List ℕ) → Type 0 → Result ReadyTest Refusal → Type 0
 GivesTest told source missed (Ok test) =
     HasText told source (λ bytes. Spells bytes (plain_script test.script))
 GivesTest told source missed (Err (Script line kind)) =
@@ -39,7 +39,7 @@ GivesTest told source missed (Err Memory) = Unit {0}
 GivesTest told source missed (Err refusal) = ⊥
 
 -- the script that a text spells, or its fault; no file is read
-abbrev pub GivesText : List ℕ → Result Test Refusal → Type 0
+abbrev pub GivesText : List ℕ → Result ReadyTest Refusal → Type 0
 GivesText bytes (Ok test) = Spells bytes (plain_script test.script)
 GivesText bytes (Err (Script line kind)) = IsFault bytes line kind
 GivesText bytes (Err Memory) = Unit {0}

@@ -1,7 +1,7 @@
 -- The options of the commands, by cases on the list of their words (this project).
 use Rattle.std.specs.Prelude.{◌≡◌, ℕ, ◌+◌, ◌&&◌, Bool, true, false, if◌then◌else◌, List, [], ◌∷◌}
 use Rattle.std.specs.Prelude.{Option, Some}
-use Rattle.std.specs.Prelude.{None, is_some, is_none, Result, Ok, Err, codes}
+use Rattle.std.specs.Prelude.{None, is_some, is_none, ok_or, Result, Ok, Err, codes}
 use Rattle.std.specs.Option.{option_map, option_and_then}
 use Rattle.std.specs.Str.{bytes_eq}
 use Rattle.pct_top.specs.declared.command.Command.{Command}
@@ -105,34 +105,23 @@ next_option command o word =
 abbrev pub OptionsOrWord : Type 0
 OptionsOrWord = Result Options ℕ
 
--- the options; where there are none, the number of the word whose value isn't lawful
-abbrev pub lawful_or : ℕ → Option Options → OptionsOrWord
-lawful_or word None = Err word
-lawful_or word (Some o) = Ok o
-
--- the options with one more, of which the first word has this number
-abbrev pub with_option : Options → ℕ → List ℕ → Option OptionName → OptionsOrWord
-with_option o number value None = Err number
-with_option o number value (Some name) =
-    lawful_or (number + 1) (with_option_value o (number + 1) name value)
-
--- the last word begins an option and has no value, or it isn't taken itself
-abbrev pub without_value : ℕ → Option OptionName → OptionsOrWord
-without_value number None = Err number
-without_value number (Some name) = Err (number + 1)
-
--- what further words give after these options; where a word wasn't taken, its number stays
-abbrev pub and_then : (Options → OptionsOrWord) → OptionsOrWord → OptionsOrWord
+-- what follows of what words give; where a word wasn't taken, its number stays
+abbrev pub and_then : {A B : Type 0} → (A → Result B ℕ) → Result A ℕ → Result B ℕ
 and_then further (Err number) = Err number
-and_then further (Ok o) = further o
+and_then further (Ok given) = further given
 
--- the options that words give a command, after those before them; the first word has this number
+-- The options that words give a command, after those before them; the first word has this number.
+-- A word isn't taken that begins no option here, and neither is a value that isn't lawful, or that
+-- is missing.
 abbrev pub options_from : Command → Options → ℕ → List (List ℕ) → OptionsOrWord
 options_from command o number [] = Ok o
-options_from command o number (word ∷ []) = without_value number (next_option command o word)
+options_from command o number (word ∷ []) =
+    and_then (λ name. Err (number + 1)) (ok_or (next_option command o word) number)
 options_from command o number (word ∷ value ∷ words) =
+    and_then (λ name.
     and_then (λ more. options_from command more (number + 2) words)
-    (with_option o number value (next_option command o word))
+    (ok_or (with_option_value o (number + 1) name value) (number + 1)))
+    (ok_or (next_option command o word) number)
 
 -- 1 where the test holds, and else 0
 abbrev pub one_if : Bool → ℕ

@@ -5,6 +5,7 @@ use Rattle.std.specs.List.{slice_split, list_all}
 use Rattle.std.specs.Str.{bytes_eq}
 use Rattle.pct_ask.specs.Numbers.{number_in, step_counts}
 use Rattle.pct_ask.specs.Words.{is_name}
+use Rattle.pct_ask.specs.declared.limits.TheConstants.{MAX_DEPTH, MAX_POINTS, MAX_THREADS}
 use Rattle.worker_run.specs.declared.serving.Serve.{Serve}
 use Rattle.worker_run.specs.declared.serving.Serve.TheVariants.{Threads, Caller}
 use Rattle.pct_top.specs.declared.values.ReportForm.{ReportForm}
@@ -14,23 +15,24 @@ use Rattle.pct_top.specs.declared.values.ReportForm.TheVariants.{Text, Json}
 abbrev pub items_of : List ℕ → List (List ℕ)
 items_of value = slice_split (λ b. b == 44) value
 
--- one to 64 names that are lawful
+-- lawful names, one to as many as there may be threads
 abbrev pub order_in : List ℕ → Option (List (List ℕ))
 order_in value =
-    if nat_le (length (items_of value)) 64 && list_all (is_name 1) (items_of value)
+    if nat_le (length (items_of value)) MAX_THREADS && list_all (is_name 1) (items_of value)
     then Some (items_of value) else None
 
--- one to seven numbers of steps
+-- numbers of steps, one to as many as there may be points
 abbrev pub points_in : List ℕ → Option (List ℕ)
-points_in value = if nat_le (length (items_of value)) 7 then step_counts (items_of value) else None
+points_in value =
+    if nat_le (length (items_of value)) MAX_POINTS then step_counts (items_of value) else None
 
 -- a seed: a number from 0 to 2^64 - 1
 abbrev pub seed_in : List ℕ → Option ℕ
 seed_in word = number_in 0 18446744073709551615 word
 
--- a depth, in 1..8
+-- a depth, from 1
 abbrev pub depth_in : List ℕ → Option ℕ
-depth_in word = number_in 1 8 word
+depth_in word = number_in 1 MAX_DEPTH word
 
 -- a form of reports
 abbrev pub form_in : List ℕ → Option ReportForm

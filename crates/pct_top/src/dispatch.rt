@@ -11,36 +11,36 @@ ghost use Rattle.pct_top.specs.Call.{ReadFailed, LeavesShelf};
 
 use crate::commands::big::big_outcome;
 use crate::files::read_test;
+use crate::job::Job;
 use crate::outcome::Outcome;
 use crate::plan::{Plan, plan_of};
 use crate::refusal::Refusal;
 use crate::settings::Settings;
-use crate::task::Task;
 use pct_outside::{Gate, Shelf};
 use std::alloc::Global;
 use std::sync::Wait;
 use std::thread::Threads;
 
-/// What comes of a task over the script of a file.
+/// What comes of a job over the script of a file.
 fn over_file<R: Threads + Wait + Sync, H: Shelf, G: Gate>(
     rt: &R,
     alloc: Global,
     file: &str,
-    task: &Task,
+    job: &Job,
     shelf: &mut H,
     gate: &G,
 ) -> Result<Outcome, Refusal>
-    ensures comes { Comes (OfTaken (Ok (asked file.now task.now))) (H.files shelf.old)
-        (ReadFailed (Ok (asked file.now task.now))
+    ensures comes { Comes (OfTaken (Ok (asked file.now job.now))) (H.files shelf.old)
+        (ReadFailed (Ok (asked file.now job.now))
         (record { files = H.files shelf.old; failed = H.failed shelf.old })
         (record { files = H.files shelf.new; failed = H.failed shelf.new })) result }
-    ensures shelf { LeavesShelf (Ok (asked file.now task.now)) (is_unread result)
+    ensures shelf { LeavesShelf (Ok (asked file.now job.now)) (is_unread result)
         (record { files = H.files shelf.old; failed = H.failed shelf.old })
         (record { files = H.files shelf.new; failed = H.failed shelf.new }) }
 {
     match read_test(alloc, file, shelf) {
         Err(refusal) => Err(refusal),
-        Ok(test) => task.outcome(rt, alloc, &test, shelf, gate),
+        Ok(test) => job.outcome(rt, alloc, &test, shelf, gate),
     }
 }
 
@@ -65,6 +65,6 @@ pub fn outcome_of<R: Threads + Wait + Sync, H: Shelf, G: Gate>(
 {
     match plan_of(settings) {
         Plan::Big { pieces, serve } => big_outcome(rt, alloc, pieces, serve, gate),
-        Plan::OfFile { file, task } => over_file(rt, alloc, file.as_str(), &task, shelf, gate),
+        Plan::OfFile { file, job } => over_file(rt, alloc, file.as_str(), &job, shelf, gate),
     }
 }

@@ -9,7 +9,7 @@ ghost use Rattle.pct_top.specs.Files.{GivesTest, GivesText, GivesTrace, GivesDir
 ghost use Rattle.pct_top.specs.Reads.{KeepsFile, is_unread};
 
 use crate::refusal::Refusal;
-use crate::test::Test;
+use crate::test::ReadyTest;
 use directive::{Directive, read_directive};
 use large_script::print_large;
 use pct_ask::Names;
@@ -28,7 +28,7 @@ const TRACE_BYTES: u64 = 16_777_217;
 const DIRECTIVE_BYTES: u64 = 65_537;
 
 /// The script of a file, ready to be run.
-pub fn read_test<H: Shelf>(alloc: Global, file: &str, shelf: &mut H) -> Result<Test, Refusal>
+pub fn read_test<H: Shelf>(alloc: Global, file: &str, shelf: &mut H) -> Result<ReadyTest, Refusal>
     ensures ready { IfOk result IsReadyTest }
     ensures test { GivesTest (H.files shelf.old) (λ files. take script_bytes (files file.now))
         (Misses (Some file.now) (H.failed shelf.old) (H.failed shelf.new)) result }
@@ -38,18 +38,18 @@ pub fn read_test<H: Shelf>(alloc: Global, file: &str, shelf: &mut H) -> Result<T
 {
     let bytes = shelf.read_up_to(file, READ_BYTES)?;
     let script = parse(alloc, &bytes)?;
-    Ok(Test::of_script(alloc, script)?)
+    Ok(ReadyTest::of_script(alloc, script)?)
 }
 
 /// The large script, printed and parsed, ready to be run.
-pub fn large_test(alloc: Global, pieces: u32) -> Result<Test, Refusal>
+pub fn large_test(alloc: Global, pieces: u32) -> Result<ReadyTest, Refusal>
     requires { pieces ≤ 100 }
     ensures ready { IfOk result IsReadyTest }
     ensures test { GivesText (layout (large_script pieces)) result }
 {
     let bytes = print_large(alloc, pieces)?;
     let script = parse(alloc, &bytes)?;
-    Ok(Test::of_script(alloc, script)?)
+    Ok(ReadyTest::of_script(alloc, script)?)
 }
 
 /// The trace of a file.

@@ -1,10 +1,10 @@
 //! The options of the commands.
 
 ghost use Rattle.std.specs.Prelude.{◌≡◌, ◌+◌, ◌*◌, ◌≤◌, ◌∷◌, length, Some, None, Ok, Err, IfOk};
-ghost use Rattle.std.specs.Prelude.{OnOk};
+ghost use Rattle.std.specs.Prelude.{OnOk, ok_or};
 ghost use Rattle.pct_outside.specs.Reading.{texts_of};
 ghost use Rattle.pct_top.specs.Options as options;
-ghost use Rattle.pct_top.specs.Options.{ChangesTo, GivesOptions, LeavesTo, lawful_or};
+ghost use Rattle.pct_top.specs.Options.{ChangesTo, GivesOptions, LeavesTo};
 ghost use Rattle.pct_top.specs.declared.settings.WordsError.TheVariants.{Word};
 
 use crate::command::Command;
@@ -141,7 +141,7 @@ impl Options {
         value: &str,
     ) -> Result<(), WordsError>
         ensures { ChangesTo result self.new
-            (lawful_or word (options.with_option_value self.old word name value.now)) }
+            (ok_or (options.with_option_value self.old word name value.now) word) }
     {
         match name {
             OptionName::Order => {

@@ -1,17 +1,18 @@
-//! What the settings come to: a task, and the script that it is done with.
+//! What the settings come to: a job, and the script that it is done with.
 
-ghost use Rattle.std.specs.Prelude.{◌≡◌};
+ghost use Rattle.std.specs.Prelude.{◌≡◌, IfSome};
+ghost use Rattle.pct_ask.specs.Limits.{IsStepCount};
 ghost use Rattle.pct_top.specs.Settings.{AreLawful};
 ghost use Rattle.pct_top.specs.Plan.{asked_by};
 
-use crate::commands::certify::CertifyTask;
-use crate::commands::every::SweepTask;
-use crate::commands::expose::ExposeTask;
-use crate::commands::replay::ReplayTask;
-use crate::commands::seeds::CampaignTask;
+use crate::commands::certify::CertifyJob;
+use crate::commands::every::SweepJob;
+use crate::commands::expose::ExposeJob;
+use crate::commands::replay::ReplayJob;
+use crate::commands::seeds::CampaignJob;
+use crate::job::Job;
 use crate::reports::{OrderedRun, SeededRun};
 use crate::settings::Settings;
-use crate::task::Task;
 use crate::text::Text;
 use pct_ask::{Depth, Limit};
 use worker_run::Serve;
@@ -21,8 +22,19 @@ use worker_run::Serve;
 pub enum Plan {
     /// The campaign of the large script, whose threads have so many pieces.
     Big { pieces: u32, serve: Serve },
-    /// A task over the script of a file.
-    OfFile { file: Text, task: Task },
+    /// A job over the script of a file.
+    OfFile { file: Text, job: Job },
+}
+
+/// A number of steps that may be given, as a limit.
+fn limit_in(steps: Option<u32>) -> Option<Limit>
+    requires { IfSome steps IsStepCount }
+    ensures { result ≡ steps }
+{
+    match steps {
+        Some(steps) => Some(Limit::new(steps)),
+        None => None,
+    }
 }
 
 /// The plan that the settings ask for.
@@ -41,7 +53,7 @@ pub fn plan_of(settings: Settings) -> Plan
             report,
         } => Plan::OfFile {
             file,
-            task: Task::Ordered(OrderedRun {
+            job: Job::Ordered(OrderedRun {
                 order,
                 word,
                 points,
@@ -58,10 +70,10 @@ pub fn plan_of(settings: Settings) -> Plan
             report,
         } => Plan::OfFile {
             file,
-            task: Task::Seeded(SeededRun {
+            job: Job::Seeded(SeededRun {
                 seed,
                 depth: Depth::new(depth),
-                steps,
+                steps: limit_in(steps),
                 limit: Limit::new(limit),
                 report,
             }),
@@ -77,11 +89,11 @@ pub fn plan_of(settings: Settings) -> Plan
             serve,
         } => Plan::OfFile {
             file,
-            task: Task::Campaign(CampaignTask {
+            job: Job::Campaign(CampaignJob {
                 first,
                 count,
                 depth: Depth::new(depth),
-                steps,
+                steps: limit_in(steps),
                 limit: Limit::new(limit),
                 json,
                 serve,
@@ -89,7 +101,7 @@ pub fn plan_of(settings: Settings) -> Plan
         },
         Settings::Replay { file, trace } => Plan::OfFile {
             file,
-            task: Task::Replay(ReplayTask { trace }),
+            job: Job::Replay(ReplayJob { trace }),
         },
         Settings::Expose {
             file,
@@ -100,7 +112,7 @@ pub fn plan_of(settings: Settings) -> Plan
             limit,
         } => Plan::OfFile {
             file,
-            task: Task::Expose(ExposeTask {
+            job: Job::Expose(ExposeJob {
                 directive,
                 order,
                 word,
@@ -116,7 +128,7 @@ pub fn plan_of(settings: Settings) -> Plan
             serve,
         } => Plan::OfFile {
             file,
-            task: Task::Certify(CertifyTask {
+            job: Job::Certify(CertifyJob {
                 directive,
                 steps: Limit::new(steps),
                 limit: Limit::new(limit),
@@ -132,9 +144,9 @@ pub fn plan_of(settings: Settings) -> Plan
             serve,
         } => Plan::OfFile {
             file,
-            task: Task::Sweep(SweepTask {
+            job: Job::Sweep(SweepJob {
                 depth: Depth::new(depth),
-                steps,
+                steps: limit_in(steps),
                 limit: Limit::new(limit),
                 json,
                 serve,

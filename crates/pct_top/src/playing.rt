@@ -9,7 +9,7 @@ ghost use Rattle.pct_top.specs.Ready.{IsReadyTest};
 ghost use Rattle.pct_ask.specs.declared.limits.TheConstants.{MAX_STEPS};
 
 use crate::run_plan::RunPlan;
-use crate::test::Test;
+use crate::test::ReadyTest;
 use pct_outside::Gate;
 use script_run::ReadyScript;
 use std::alloc::{AllocError as NoMemory, Global};
@@ -21,7 +21,7 @@ use worker_run::{Serve, WholeRun};
 pub fn play<R: Threads + Wait + Sync, G: Gate>(
     rt: &R,
     alloc: Global,
-    test: &Test,
+    test: &ReadyTest,
     plan: &RunPlan,
     serve: Serve,
     gate: &G,
@@ -42,5 +42,7 @@ pub fn play<R: Threads + Wait + Sync, G: Gate>(
     };
     let order = plan.order.as_slice();
     let points = plan.points.as_slice();
-    ready.run_by_points(rt, alloc, order, points, plan.limit.steps(), serve, gate)
+    let limit = plan.limit;
+    let _most = limit.steps(); // so many steps at most
+    ready.run_by_points(rt, alloc, order, points, limit, serve, gate)
 }

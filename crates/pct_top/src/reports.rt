@@ -1,10 +1,8 @@
 //! What is reported of a run: the commands that take the words of a run.
 
-ghost use Rattle.std.specs.Prelude.{IfOk, IfSome};
-ghost use Rattle.std.proofs.Props.{props};
+ghost use Rattle.std.specs.Prelude.{IfOk};
 ghost use Rattle.priority_draw.specs.Orders.{IsOrderOf};
 ghost use Rattle.script_tree.specs.ScriptSeen.{plain_script};
-ghost use Rattle.pct_ask.specs.Limits.{IsStepCount};
 ghost use Rattle.pct_top.specs.Ready.{IsReadyTest};
 ghost use Rattle.pct_top.specs.Settings.{ArePoints};
 ghost use Rattle.pct_top.specs.Outcome.{printed_of, GivesPrinted};
@@ -16,7 +14,7 @@ use crate::outcome::Outcome;
 use crate::refusal::Refusal;
 use crate::run_plan::{RunPlan, drawn, steps_of};
 use crate::settings::Report;
-use crate::test::Test;
+use crate::test::ReadyTest;
 use crate::text::TextList;
 use pct_ask::{Depth, Limit, PointList};
 use pct_outside::Gate;
@@ -30,7 +28,7 @@ fn report_of<R: Threads + Wait + Sync, G: Gate>(
     rt: &R,
     alloc: Global,
     report: Report,
-    test: &Test,
+    test: &ReadyTest,
     plan: RunPlan,
     gate: &G,
 ) -> Result<Outcome, NoMemory>
@@ -64,7 +62,7 @@ impl OrderedRun {
         &self,
         rt: &R,
         alloc: Global,
-        test: &Test,
+        test: &ReadyTest,
         gate: &G,
     ) -> Result<Outcome, Refusal>
         requires ready { IsReadyTest test.now }
@@ -93,10 +91,9 @@ impl OrderedRun {
 pub struct SeededRun {
     pub seed: u64,
     pub depth: Depth,
-    pub steps: Option<u32>,
+    pub steps: Option<Limit>,
     pub limit: Limit,
     pub report: Report,
-    ghost steps_fit: { IfSome steps IsStepCount } by { Prim.hlevel props },
 }
 
 impl SeededRun {
@@ -104,7 +101,7 @@ impl SeededRun {
         &self,
         rt: &R,
         alloc: Global,
-        test: &Test,
+        test: &ReadyTest,
         gate: &G,
     ) -> Result<Outcome, NoMemory>
         requires ready { IsReadyTest test.now }

@@ -1,17 +1,16 @@
 //! What a run is made by.
 
-ghost use Rattle.std.specs.Prelude.{◌≡◌, ◌≤◌, None, IfOk, IfSome};
+ghost use Rattle.std.specs.Prelude.{◌≡◌, ◌≤◌, None, IfOk};
 ghost use Rattle.script_tree.specs.ScriptSeen.{plain_script};
 ghost use Rattle.priority_draw.specs.Drawing.{draw_of_seed};
 ghost use Rattle.priority_draw.specs.Orders.{IsOrderOf};
-ghost use Rattle.pct_ask.specs.Limits.{IsStepCount};
 ghost use Rattle.pct_top.specs.Ready.{IsReadyTest};
 ghost use Rattle.pct_top.specs.Settings.{ArePoints};
 ghost use Rattle.pct_top.specs.Runs.{DrawsFrom};
 ghost use Rattle.pct_ask.specs.declared.limits.TheConstants.{MAX_THREADS};
 
 use crate::playing::play;
-use crate::test::Test;
+use crate::test::ReadyTest;
 use pct_ask::{Depth, Limit, OrderList, PointList};
 use pct_outside::Gate;
 use priority_draw::{Words, declared_order};
@@ -34,15 +33,14 @@ pub struct RunPlan {
 fn declared_length<R: Threads + Wait + Sync, G: Gate>(
     rt: &R,
     alloc: Global,
-    test: &Test,
+    test: &ReadyTest,
     limit: Limit,
     serve: Serve,
     gate: &G,
-) -> Result<u32, NoMemory>
+) -> Result<Limit, NoMemory>
     requires ready { IsReadyTest test.now }
-    ensures draws { IfOk result
+    ensures { IfOk result
         (DrawsFrom (plain_script test.now.script) test.now.deal limit None) }
-    ensures fits { IfOk result IsStepCount }
 {
     let order = OrderList::from_vec(declared_order(alloc, test.deal.threads)?);
     let points = PointList::new(alloc);
@@ -52,24 +50,22 @@ fn declared_length<R: Threads + Wait + Sync, G: Gate>(
         limit,
     };
     let run = play(rt, alloc, test, &plan, serve, gate)?;
-    Ok((run.events.len() as u32).max(1))
+    Ok(Limit::new((run.events.len() as u32).max(1)))
 }
 
 /// From how many steps points are drawn.
 pub fn steps_of<R: Threads + Wait + Sync, G: Gate>(
     rt: &R,
     alloc: Global,
-    test: &Test,
-    steps: Option<u32>,
+    test: &ReadyTest,
+    steps: Option<Limit>,
     limit: Limit,
     serve: Serve,
     gate: &G,
-) -> Result<u32, NoMemory>
+) -> Result<Limit, NoMemory>
     requires ready { IsReadyTest test.now }
-    requires given { IfSome steps IsStepCount }
-    ensures draws { IfOk result
+    ensures { IfOk result
         (DrawsFrom (plain_script test.now.script) test.now.deal limit steps) }
-    ensures fits { IfOk result IsStepCount }
 {
     match steps {
         Some(steps) => Ok(steps),
@@ -82,13 +78,12 @@ pub fn drawn(
     alloc: Global,
     threads: u32,
     seed: u64,
-    steps: u32,
+    steps: Limit,
     depth: Depth,
     limit: Limit,
 ) -> Result<RunPlan, NoMemory>
     requires some_thread { 1 ≤ threads }
     requires few_threads { threads ≤ MAX_THREADS }
-    requires steps { IsStepCount steps }
     ensures order { IfOk result (λ own. own.order ≡ (draw_of_seed seed threads steps depth).order) }
     ensures points { IfOk result
         (λ own. own.points ≡ (draw_of_seed seed threads steps depth).points) }
@@ -97,7 +92,7 @@ pub fn drawn(
 {
     let mut words = Words::of_seed(seed);
     let order = words.draw_order(alloc, threads)?;
-    let points = words.draw_points(alloc, steps, depth.points())?;
+    let points = words.draw_points(alloc, steps.steps(), depth.points())?;
     Ok(RunPlan {
         order,
         points,

@@ -13,7 +13,7 @@ use std::alloc::{AllocError as NoMemory, Global};
 
 /// A script with its code and what its threads share.
 #[derive(Debug, Drop)]
-pub struct Test {
+pub struct ReadyTest {
     pub script: Script,
     pub code: Code,
     pub deal: Deal,
@@ -29,13 +29,13 @@ fn parts_of(alloc: Global, script: &Script) -> Result<(Code, Deal), NoMemory>
     Ok((code, deal))
 }
 
-impl Test {
+impl ReadyTest {
     pub fn of_script(alloc: Global, script: Script) -> Result<Self, NoMemory>
         ensures script { IfOk result (λ test. plain_script test.script ≡ plain_script script) }
         ensures ready { IfOk result IsReadyTest }
     {
         match parts_of(alloc, &script) {
-            Ok((code, deal)) => Ok(Test { script, code, deal }),
+            Ok((code, deal)) => Ok(ReadyTest { script, code, deal }),
             Err(NoMemory) => {
                 drop(script);
                 Err(NoMemory)

@@ -1,9 +1,10 @@
 //! The words of the command line.
 
-ghost use Rattle.std.specs.Prelude.{◌≡◌, IfOk};
+ghost use Rattle.std.specs.Prelude.{◌≡◌, [], ◌∷◌, IfOk, IfErr};
 ghost use Rattle.pct_outside.specs.Reading.{texts_of};
+ghost use Rattle.pct_top.specs.declared.settings.WordsError.TheVariants.{Word};
 ghost use Rattle.pct_top.specs.Settings as settings;
-ghost use Rattle.pct_top.specs.Settings.{GivesFiles, ReadsWordsAs, AreLawful};
+ghost use Rattle.pct_top.specs.Settings.{ReadsWordsAs, AreLawful};
 
 use crate::command::Command;
 use crate::options::{NamedOrder, Options, options_in};
@@ -16,6 +17,18 @@ use worker_run::Serve;
 
 /// How many steps a run may have where nothing else is said.
 pub const DEFAULT_LIMIT: u32 = 10_000;
+
+/// The first of these words, whose number this is, and those behind it.
+fn split_word(words: &[String], number: u32) -> Result<(&str, &[String]), WordsError>
+    ensures some { IfOk result
+        (λ given. texts_of words.now ≡ given.0.now ∷ texts_of given.1.now) }
+    ensures none { IfErr result (λ error. (error ≡ Word number) × (texts_of words.now ≡ [])) }
+{
+    let Some((word, others)) = words.split_first() else {
+        return Err(WordsError::Word(number));
+    };
+    Ok((word.as_str(), others))
+}
 
 /// The run that options ask for, where they are all there.
 fn run_with(alloc: Global, report: Report, file: Text, options: Options) -> Option<Settings>
@@ -52,13 +65,13 @@ fn run_with(alloc: Global, report: Report, file: Text, options: Options) -> Opti
 }
 
 fn run_words(alloc: Global, report: Report, words: &[String]) -> Result<Settings, WordsError>
-    ensures { ReadsWordsAs result (settings.run_settings report (texts_of words.now)) }
+    ensures { ReadsWordsAs result
+        (settings.settings_with (Command.Run report) (settings.run_with report)
+        (texts_of words.now)) }
 {
-    let Some((file, others)) = words.split_first() else {
-        return Err(WordsError::Word(2));
-    };
+    let (file, others) = split_word(words, 2)?;
     let (options, next) = options_in(alloc, Command::Run(report), 3, others)?;
-    let file = Text::copy_of(alloc, file.as_str())?;
+    let file = Text::copy_of(alloc, file)?;
     run_with(alloc, report, file, options).ok_or(WordsError::Word(next))
 }
 
@@ -79,25 +92,20 @@ fn campaign_with(file: Text, options: Options) -> Option<Settings>
 }
 
 fn campaign_words(alloc: Global, words: &[String]) -> Result<Settings, WordsError>
-    ensures { ReadsWordsAs result (settings.campaign_settings (texts_of words.now)) }
+    ensures { ReadsWordsAs result
+        (settings.settings_with Command.Campaign settings.campaign_with (texts_of words.now)) }
 {
-    let Some((file, others)) = words.split_first() else {
-        return Err(WordsError::Word(2));
-    };
+    let (file, others) = split_word(words, 2)?;
     let (options, next) = options_in(alloc, Command::Campaign, 3, others)?;
-    let file = Text::copy_of(alloc, file.as_str())?;
+    let file = Text::copy_of(alloc, file)?;
     campaign_with(file, options).ok_or(WordsError::Word(next))
 }
 
 fn big_words(alloc: Global, words: &[String]) -> Result<Settings, WordsError>
     ensures { ReadsWordsAs result (settings.big_settings (texts_of words.now)) }
 {
-    let Some((word, others)) = words.split_first() else {
-        return Err(WordsError::Word(2));
-    };
-    let Some(pieces) = pieces_in(word.as_str()) else {
-        return Err(WordsError::Word(2));
-    };
+    let (word, others) = split_word(words, 2)?;
+    let pieces = pieces_in(word).ok_or(WordsError::Word(2))?;
     let (options, _) = options_in(alloc, Command::Big, 3, others)?;
     Ok(Settings::Big {
         pieces,
@@ -105,45 +113,16 @@ fn big_words(alloc: Global, words: &[String]) -> Result<Settings, WordsError>
     })
 }
 
-/// What the words say of a command over two files.
-#[derive(Drop)]
-struct TwoFiles {
-    /// The script's file.
-    file: Text,
-    /// The file of the trace or the directive.
-    second: Text,
-    options: Options,
-    /// The number of the word that would follow.
-    next: u32,
-}
-
-/// The two files that the words give a command, and the options behind them.
-fn two_files(alloc: Global, command: Command, words: &[String]) -> Result<TwoFiles, WordsError>
-    ensures { GivesFiles result (settings.two_files command (texts_of words.now)) }
-{
-    match words {
-        [] => Err(WordsError::Word(2)),
-        [_] => Err(WordsError::Word(3)),
-        [file, second, others @ ..] => {
-            let (options, next) = options_in(alloc, command, 4, others)?;
-            Ok(TwoFiles {
-                file: Text::copy_of(alloc, file.as_str())?,
-                second: Text::copy_of(alloc, second.as_str())?,
-                options,
-                next,
-            })
-        }
-    }
-}
-
 fn replay_words(alloc: Global, words: &[String]) -> Result<Settings, WordsError>
     ensures { ReadsWordsAs result
         (settings.settings_over Command.Replay settings.replay_with (texts_of words.now)) }
 {
-    let given = two_files(alloc, Command::Replay, words)?;
+    let (file, others) = split_word(words, 2)?;
+    let (trace, others) = split_word(others, 3)?;
+    let (_, _) = options_in(alloc, Command::Replay, 4, others)?;
     Ok(Settings::Replay {
-        file: given.file,
-        trace: given.second,
+        file: Text::copy_of(alloc, file)?,
+        trace: Text::copy_of(alloc, trace)?,
     })
 }
 
@@ -166,8 +145,12 @@ fn expose_words(alloc: Global, words: &[String]) -> Result<Settings, WordsError>
     ensures { ReadsWordsAs result
         (settings.settings_over Command.Expose settings.expose_with (texts_of words.now)) }
 {
-    let given = two_files(alloc, Command::Expose, words)?;
-    expose_with(given.file, given.second, given.options).ok_or(WordsError::Word(given.next))
+    let (file, others) = split_word(words, 2)?;
+    let (directive, others) = split_word(others, 3)?;
+    let (options, next) = options_in(alloc, Command::Expose, 4, others)?;
+    let file = Text::copy_of(alloc, file)?;
+    let directive = Text::copy_of(alloc, directive)?;
+    expose_with(file, directive, options).ok_or(WordsError::Word(next))
 }
 
 /// What is to be certified of a directive, where the options are all there.
@@ -187,8 +170,12 @@ fn certify_words(alloc: Global, words: &[String]) -> Result<Settings, WordsError
     ensures { ReadsWordsAs result
         (settings.settings_over Command.Certify settings.certify_with (texts_of words.now)) }
 {
-    let given = two_files(alloc, Command::Certify, words)?;
-    certify_with(given.file, given.second, given.options).ok_or(WordsError::Word(given.next))
+    let (file, others) = split_word(words, 2)?;
+    let (directive, others) = split_word(others, 3)?;
+    let (options, next) = options_in(alloc, Command::Certify, 4, others)?;
+    let file = Text::copy_of(alloc, file)?;
+    let directive = Text::copy_of(alloc, directive)?;
+    certify_with(file, directive, options).ok_or(WordsError::Word(next))
 }
 
 /// The sweep that options ask for, where they are all there.
@@ -206,13 +193,12 @@ fn sweep_with(file: Text, options: Options) -> Option<Settings>
 }
 
 fn sweep_words(alloc: Global, words: &[String]) -> Result<Settings, WordsError>
-    ensures { ReadsWordsAs result (settings.sweep_settings (texts_of words.now)) }
+    ensures { ReadsWordsAs result
+        (settings.settings_with Command.Sweep settings.sweep_with (texts_of words.now)) }
 {
-    let Some((file, others)) = words.split_first() else {
-        return Err(WordsError::Word(2));
-    };
+    let (file, others) = split_word(words, 2)?;
     let (options, next) = options_in(alloc, Command::Sweep, 3, others)?;
-    let file = Text::copy_of(alloc, file.as_str())?;
+    let file = Text::copy_of(alloc, file)?;
     sweep_with(file, options).ok_or(WordsError::Word(next))
 }
 

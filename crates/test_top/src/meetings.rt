@@ -9,7 +9,7 @@ ghost use Rattle.script_body.specs.Bodies.{AreOf};
 ghost use Rattle.worker_run.specs.Tests.{IsTest, AreTests};
 
 use crate::calls::{ADDERS, Given, IN_ORDER, SOUND, SUM, expect_gated};
-use pct_ask::{Ask, Body, Deal, Event, Outcome, Post, Verdict};
+use pct_ask::{Ask, Body, Deal, Event, Limit, Outcome, Post, Verdict};
 use pct_outside::{Gate, OpenGate, PairGate};
 use pct_top::Status;
 use policy_pick::Pct;
@@ -133,7 +133,7 @@ fn looking_test<'c, 'g>(
         (λ test. IsTest (λ b. pending_of_body b.body) points_plan PointsStand test) }
 {
     let bodies = lookers(alloc, code, first_after, gate)?;
-    Test::by_points(alloc, deal, &[0, 1, 2], &[], 10_000, bodies)
+    Test::by_points(alloc, deal, &[0, 1, 2], &[], Limit::new(10_000), bodies)
 }
 
 /// The steps are those of the order.
@@ -160,7 +160,15 @@ fn play_lookers<R: Threads + Wait + Sync>(
         limit,
         bodies,
     } = looking_test(alloc, code, deal, first_after, gate)?;
-    run_threads(rt, alloc, deal, policy, limit, bodies, &OpenGate::new())
+    run_threads(
+        rt,
+        alloc,
+        deal,
+        policy,
+        limit.steps(),
+        bodies,
+        &OpenGate::new(),
+    )
 }
 
 /// Each of the two sees the other, and the steps are those of the order.

@@ -1,4 +1,4 @@
-use Rattle.std.proofs.Common.{◌≡◌, ℕ, List, Result, Ok, Err, refl, sym, subst, ap, ◌∙◌}
+use Rattle.std.proofs.Common.{◌≡◌, ℕ, List, Err, refl, sym, subst, ap}
 use Rattle.pct_outside.specs.Counter.{Rose}
 use Rattle.pct_outside.specs.Piece.{IsPartAppended}
 use Rattle.pct_outside.specs.declared.sinks.SinkError.{SinkError}

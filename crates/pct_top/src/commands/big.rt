@@ -17,12 +17,12 @@ use crate::lines::{push_count, push_size};
 use crate::outcome::Outcome;
 use crate::refusal::Refusal;
 use crate::run_plan::steps_of;
-use crate::test::Test;
+use crate::test::ReadyTest;
 use crate::traces::is_passed;
 use campaign::campaign_by;
 use failure_rank::{Group, rank};
 use large_script::line_count;
-use pct_ask::{Limit, Row};
+use pct_ask::{Depth, Limit, Row};
 use pct_outside::Gate;
 use std::alloc::{AllocError as NoMemory, Global};
 use std::sync::Wait;
@@ -73,7 +73,7 @@ fn write_counts(
 fn big_of<R: Threads + Wait + Sync, G: Gate>(
     rt: &R,
     alloc: Global,
-    test: &Test,
+    test: &ReadyTest,
     pieces: u32,
     serve: Serve,
     gate: &G,
@@ -84,13 +84,21 @@ fn big_of<R: Threads + Wait + Sync, G: Gate>(
         OfBig pieces (plain_script test.now.script) test.now.deal (printed_of outcome)) }
 {
     let (first, count) = SEEDS;
-    let steps = steps_of(rt, alloc, test, None, Limit::new(LIMIT), serve, gate)?;
+    let depth = Depth::new(DEPTH);
+    let limit = Limit::new(LIMIT);
+    let steps = steps_of(rt, alloc, test, None, limit, serve, gate)?;
     let rows = campaign_by(
-        rt, alloc, &test.code, &test.deal, first, count, DEPTH, steps, LIMIT, serve, gate,
+        rt, alloc, &test.code, &test.deal, first, count, depth, steps, limit, serve, gate,
     )?;
     let groups = rank(alloc, &rows)?;
     let lines = line_count(pieces);
-    let text = write_counts(alloc, lines, steps, rows.as_slice(), groups.as_slice())?;
+    let text = write_counts(
+        alloc,
+        lines,
+        steps.steps(),
+        rows.as_slice(),
+        groups.as_slice(),
+    )?;
     let done = all_pass(rows.as_slice());
     Ok(Outcome { text, done })
 }

@@ -23,7 +23,7 @@ use crate::files::read_directed;
 use crate::lines::{push_count, push_number, push_verdict};
 use crate::outcome::Outcome;
 use crate::refusal::Refusal;
-use crate::test::Test;
+use crate::test::ReadyTest;
 use crate::text::Text;
 use directive::Directive;
 use directive_run::{Certified, CertifyRow, certify_by};
@@ -148,19 +148,19 @@ fn is_certified(certified: &Certified) -> bool
 
 /// The certificate of the directive of a file over a script, for runs of at most `steps` steps.
 #[derive(Debug, Drop)]
-pub struct CertifyTask {
+pub struct CertifyJob {
     pub directive: Text,
     pub steps: Limit,
     pub limit: Limit,
     pub serve: Serve,
 }
 
-impl CertifyTask {
+impl CertifyJob {
     fn certificate_of<R: Threads + Wait + Sync, G: Gate>(
         &self,
         rt: &R,
         alloc: Global,
-        test: &Test,
+        test: &ReadyTest,
         directive: &Directive,
         gate: &G,
     ) -> Result<Outcome, NoMemory>
@@ -182,7 +182,7 @@ impl CertifyTask {
         &self,
         rt: &R,
         alloc: Global,
-        test: &Test,
+        test: &ReadyTest,
         directive: &str,
         shelf: &mut H,
         gate: &G,

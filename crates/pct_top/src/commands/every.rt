@@ -1,9 +1,7 @@
 //! `sweep`: what every choice of an order and change points leads to.
 
-ghost use Rattle.std.specs.Prelude.{◌≡◌, ◌≤◌, ◌<◌, List, Some, All, IfOk, IfSome, map};
-ghost use Rattle.std.proofs.Props.{props};
+ghost use Rattle.std.specs.Prelude.{◌≡◌, ◌≤◌, ◌<◌, List, Some, All, IfOk, map};
 ghost use Rattle.script_tree.specs.ScriptSeen.{plain_script};
-ghost use Rattle.pct_ask.specs.Limits.{IsStepCount};
 ghost use Rattle.report_text.specs.Report.{IsTellable};
 ghost use Rattle.report_text.specs.declared.swept.SweptGroup.{SweptGroup};
 ghost use Rattle.failure_rank.specs.declared.group.Group.{Group};
@@ -13,10 +11,11 @@ ghost use Rattle.pct_top.specs.Outcome.{printed_of};
 ghost use Rattle.pct_top.specs.commands.Sweep.{count_in, told_group, AreTold, sweep_report};
 ghost use Rattle.pct_top.specs.commands.Sweep.{too_many_text, OfSweep};
 
+use crate::commands::seeds::frame_of;
 use crate::lines::push_count;
 use crate::outcome::Outcome;
 use crate::run_plan::steps_of;
-use crate::test::Test;
+use crate::test::ReadyTest;
 use failure_rank::Group;
 use pct_ask::{Depth, Limit};
 use pct_outside::Gate;
@@ -99,21 +98,20 @@ fn too_many(alloc: Global, threads: u32) -> Result<Vec<u8>, NoMemory>
 
 /// The report on all choices of an order of a script's threads and of `depth - 1` change points.
 #[derive(Debug, Drop)]
-pub struct SweepTask {
+pub struct SweepJob {
     pub depth: Depth,
-    pub steps: Option<u32>,
+    pub steps: Option<Limit>,
     pub limit: Limit,
     pub json: bool,
     pub serve: Serve,
-    ghost steps_fit: { IfSome steps IsStepCount } by { Prim.hlevel props },
 }
 
-impl SweepTask {
+impl SweepJob {
     pub fn report_on<R: Threads + Wait + Sync, G: Gate>(
         &self,
         rt: &R,
         alloc: Global,
-        test: &Test,
+        test: &ReadyTest,
         gate: &G,
     ) -> Result<Outcome, NoMemory>
         requires ready { IsReadyTest test.now }
@@ -121,17 +119,18 @@ impl SweepTask {
             self.now.json (plain_script test.now.script) test.now.deal (printed_of outcome)) }
     {
         let steps = steps_of(rt, alloc, test, self.steps, self.limit, self.serve, gate)?;
-        let depth = self.depth.number();
-        let limit = self.limit.steps();
-        let frame = Frame {
-            threads: test.deal.threads,
-            steps,
-            depth,
-            limit,
-        };
-        let points = depth - 1;
+        let frame = frame_of(test, self.depth, steps, self.limit);
+        let points = self.depth.points();
         match sweep(
-            rt, alloc, &test.code, &test.deal, points, steps, limit, self.serve, gate,
+            rt,
+            alloc,
+            &test.code,
+            &test.deal,
+            points,
+            frame.steps,
+            frame.limit,
+            self.serve,
+            gate,
         )? {
             Answer::Whole(swept) => {
                 let told = told_groups(alloc, &frame, swept.groups.as_slice())?;

@@ -20,7 +20,7 @@ use crate::order::order_given;
 use crate::outcome::Outcome;
 use crate::refusal::Refusal;
 use crate::run_plan::RunPlan;
-use crate::test::Test;
+use crate::test::ReadyTest;
 use crate::text::{Text, TextList};
 use crate::traces::told_trace;
 use directive::Directive;
@@ -44,7 +44,7 @@ fn write_long(alloc: Global, steps: u32) -> Result<Vec<u8>, NoMemory>
 /// stand in the word of this number. It has at most `limit` steps, and points stand for the
 /// directive's moments where it has at most `steps`.
 #[derive(Debug, Drop)]
-pub struct ExposeTask {
+pub struct ExposeJob {
     pub directive: Text,
     pub order: TextList,
     pub word: u32,
@@ -53,12 +53,12 @@ pub struct ExposeTask {
     ghost steps_fit: { IsStepCount steps },
 }
 
-impl ExposeTask {
+impl ExposeJob {
     /// What is written of what was exposed under this order.
     fn told_exposed(
         &self,
         alloc: Global,
-        test: &Test,
+        test: &ReadyTest,
         order: OrderList,
         directive: &Directive,
         exposed: Exposed,
@@ -95,7 +95,7 @@ impl ExposeTask {
         &self,
         rt: &R,
         alloc: Global,
-        test: &Test,
+        test: &ReadyTest,
         order: OrderList,
         directive: &Directive,
         gate: &G,
@@ -125,7 +125,7 @@ impl ExposeTask {
         &self,
         rt: &R,
         alloc: Global,
-        test: &Test,
+        test: &ReadyTest,
         directive: &str,
         shelf: &mut H,
         gate: &G,

@@ -12,7 +12,7 @@ ghost use Rattle.pct_top.specs.commands.KnownFinding.{IsKnownFinding};
 use crate::lines::push_count;
 use crate::outcome::Outcome;
 use crate::run_plan::RunPlan;
-use crate::test::Test;
+use crate::test::ReadyTest;
 use directive::{Directive, write_directive};
 use directive_find::{FoundOut, find};
 use pct_ask::Names;
@@ -67,7 +67,7 @@ fn write_found(
 pub fn directive_of<R: Threads + Wait + Sync, G: Gate>(
     rt: &R,
     alloc: Global,
-    test: &Test,
+    test: &ReadyTest,
     plan: RunPlan,
     gate: &G,
 ) -> Result<Outcome, NoMemory>

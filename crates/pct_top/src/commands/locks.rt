@@ -13,7 +13,7 @@ use crate::lines::{push_number, push_size};
 use crate::outcome::Outcome;
 use crate::playing::play;
 use crate::run_plan::RunPlan;
-use crate::test::Test;
+use crate::test::ReadyTest;
 use lock_order::{LockReport, Nesting, lock_order};
 use pct_ask::{NameKind, Names, name_at, write_spaced_word};
 use pct_outside::Gate;
@@ -76,7 +76,7 @@ fn is_order(report: &LockReport) -> bool
 pub fn locks_of<R: Threads + Wait + Sync, G: Gate>(
     rt: &R,
     alloc: Global,
-    test: &Test,
+    test: &ReadyTest,
     plan: RunPlan,
     gate: &G,
 ) -> Result<Outcome, NoMemory>

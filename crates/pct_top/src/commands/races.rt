@@ -12,7 +12,7 @@ use crate::lines::{push_number, push_size};
 use crate::outcome::Outcome;
 use crate::playing::play;
 use crate::run_plan::RunPlan;
-use crate::test::Test;
+use crate::test::ReadyTest;
 use hb_race::{Race, races};
 use pct_ask::{NameKind, Names, name_at, write_spaced_word};
 use pct_outside::Gate;
@@ -50,7 +50,7 @@ fn write_races(alloc: Global, names: &Names, races: &[Race]) -> Result<Vec<u8>, 
 pub fn races_of<R: Threads + Wait + Sync, G: Gate>(
     rt: &R,
     alloc: Global,
-    test: &Test,
+    test: &ReadyTest,
     plan: RunPlan,
     gate: &G,
 ) -> Result<Outcome, NoMemory>

@@ -18,7 +18,7 @@ use crate::files::read_told;
 use crate::lines::{push_count, push_thread, push_verdict};
 use crate::outcome::Outcome;
 use crate::refusal::Refusal;
-use crate::test::Test;
+use crate::test::ReadyTest;
 use crate::text::Text;
 use pct_ask::Names;
 use pct_outside::{Gate, Shelf};
@@ -95,7 +95,7 @@ fn is_confirmed(reply: &Replayed) -> bool
 fn reply_to<R: Threads + Wait + Sync, G: Gate>(
     rt: &R,
     alloc: Global,
-    test: &Test,
+    test: &ReadyTest,
     told: &TraceFile,
     gate: &G,
 ) -> Result<Outcome, NoMemory>
@@ -114,7 +114,7 @@ fn reply_to<R: Threads + Wait + Sync, G: Gate>(
 pub fn reply_to_file<R: Threads + Wait + Sync, H: Shelf, G: Gate>(
     rt: &R,
     alloc: Global,
-    test: &Test,
+    test: &ReadyTest,
     trace: &str,
     shelf: &mut H,
     gate: &G,
@@ -137,6 +137,6 @@ pub fn reply_to_file<R: Threads + Wait + Sync, H: Shelf, G: Gate>(
 
 /// The replay of the trace of a file over a script.
 #[derive(Debug, Drop)]
-pub struct ReplayTask {
+pub struct ReplayJob {
     pub trace: Text,
 }

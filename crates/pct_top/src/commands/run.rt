@@ -10,7 +10,7 @@ ghost use Rattle.pct_top.specs.commands.Run.{PrintsTrace};
 use crate::outcome::Outcome;
 use crate::playing::play;
 use crate::run_plan::RunPlan;
-use crate::test::Test;
+use crate::test::ReadyTest;
 use crate::traces::{is_passed, told_trace};
 use pct_outside::Gate;
 use std::alloc::{AllocError as NoMemory, Global};
@@ -22,7 +22,7 @@ use worker_run::Serve;
 pub fn trace_of<R: Threads + Wait + Sync, G: Gate>(
     rt: &R,
     alloc: Global,
-    test: &Test,
+    test: &ReadyTest,
     plan: RunPlan,
     gate: &G,
 ) -> Result<Outcome, NoMemory>

@@ -1,18 +1,18 @@
 //! `campaign`: the report on a script's runs over seeds.
 
-ghost use Rattle.std.specs.Prelude.{◌≡◌, All, IfOk, IfSome};
-ghost use Rattle.std.proofs.Props.{props};
+ghost use Rattle.std.specs.Prelude.{◌≡◌, All, IfOk};
 ghost use Rattle.script_tree.specs.ScriptSeen.{plain_script};
-ghost use Rattle.pct_ask.specs.Limits.{IsStepCount};
+ghost use Rattle.pct_ask.specs.Limits.{IsDepth, IsStepCount};
 ghost use Rattle.report_text.specs.Report.{IsWritable};
 ghost use Rattle.pct_top.specs.Ready.{IsReadyTest};
 ghost use Rattle.pct_top.specs.Outcome.{printed_of};
 ghost use Rattle.pct_top.specs.commands.Campaign.{all_pass as all_pass_by, campaign_text};
+ghost use Rattle.pct_top.specs.commands.Campaign.{frame_of as frame_by};
 ghost use Rattle.pct_top.specs.commands.Campaign.{OfCampaign};
 
 use crate::outcome::Outcome;
 use crate::run_plan::steps_of;
-use crate::test::Test;
+use crate::test::ReadyTest;
 use crate::traces::is_passed;
 use campaign::campaign_by;
 use failure_rank::{Groups, rank};
@@ -35,6 +35,21 @@ pub fn all_pass(rows: &[Row]) -> bool
         }
     }
     true
+}
+
+/// What a report says that its runs were made with.
+pub fn frame_of(test: &ReadyTest, depth: Depth, steps: Limit, limit: Limit) -> Frame
+    ensures made { result ≡ frame_by test.now.deal depth steps limit }
+    ensures depth { IsDepth result.depth }
+    ensures steps { IsStepCount result.steps }
+    ensures limit { IsStepCount result.limit }
+{
+    Frame {
+        threads: test.deal.threads,
+        steps: steps.steps(),
+        depth: depth.number(),
+        limit: limit.steps(),
+    }
 }
 
 /// The report as JSON or as a text.
@@ -60,24 +75,23 @@ fn write_report(
 
 /// The report on the runs of a script of `count` seeds from `first` on.
 #[derive(Debug, Drop)]
-pub struct CampaignTask {
+pub struct CampaignJob {
     pub first: u64,
     pub count: u32,
     pub depth: Depth,
-    pub steps: Option<u32>,
+    pub steps: Option<Limit>,
     pub limit: Limit,
     pub json: bool,
     pub serve: Serve,
     ghost count_fits: { IsStepCount count },
-    ghost steps_fit: { IfSome steps IsStepCount } by { Prim.hlevel props },
 }
 
-impl CampaignTask {
+impl CampaignJob {
     pub fn report_on<R: Threads + Wait + Sync, G: Gate>(
         &self,
         rt: &R,
         alloc: Global,
-        test: &Test,
+        test: &ReadyTest,
         gate: &G,
     ) -> Result<Outcome, NoMemory>
         requires ready { IsReadyTest test.now }
@@ -86,19 +100,12 @@ impl CampaignTask {
             test.now.deal (printed_of outcome)) }
     {
         let steps = steps_of(rt, alloc, test, self.steps, self.limit, self.serve, gate)?;
-        let depth = self.depth.number();
-        let limit = self.limit.steps();
         let rows = campaign_by(
-            rt, alloc, &test.code, &test.deal, self.first, self.count, depth, steps, limit,
-            self.serve, gate,
+            rt, alloc, &test.code, &test.deal, self.first, self.count, self.depth, steps,
+            self.limit, self.serve, gate,
         )?;
         let groups = rank(alloc, &rows)?;
-        let frame = Frame {
-            threads: test.deal.threads,
-            steps,
-            depth,
-            limit,
-        };
+        let frame = frame_of(test, self.depth, steps, self.limit);
         let text = write_report(alloc, self.json, &test.script, &frame, &rows, &groups)?;
         let done = all_pass(rows.as_slice());
         Ok(Outcome { text, done })

@@ -47,16 +47,16 @@ returns-in-OfFile-clause-comes g c =
       files = g.H.Shelf.files c.over_file.new.shelf;
       failed = g.H.Shelf.failed c.over_file.new.shelf;
     } in
-    comes_of_same c.args.settings (asked c.as_str.result.now plan.task)
+    comes_of_same c.args.settings (asked c.as_str.result.now plan.job)
     (c.plan_of.ensures ∙ ap asked_by plan.is
-    ∙ ap (λ file. asked file plan.task) (sym c.as_str.ensures))
+    ∙ ap (λ file. asked file plan.job) (sym c.as_str.ensures))
     before after c.over_file.result c.over_file.ensures.comes
 
 pub returns-in-OfFile-clause-unread : goal.returns-in-OfFile-clause-unread
 returns-in-OfFile-clause-unread g c = λ none files.
     let plan = c.in-OfFile in
     let some : script_file c.args.settings ≡ Some plan.file =
-    ap script_file (c.plan_of.ensures ∙ ap asked_by plan.is) ∙ asked_file plan.file plan.task in
+    ap script_file (c.plan_of.ensures ∙ ap asked_by plan.is) ∙ asked_file plan.file plan.job in
     absurd (is_some (sym some ∙ none))
 
 pub returns-in-OfFile-clause-shelf : goal.returns-in-OfFile-clause-shelf
@@ -72,5 +72,5 @@ returns-in-OfFile-clause-shelf g c =
     } in
     subst (λ (s : Settings). LeavesShelf (Ok s) (is_unread c.over_file.result) before after)
     (sym (c.plan_of.ensures ∙ ap asked_by plan.is
-    ∙ ap (λ file. asked file plan.task) (sym c.as_str.ensures)))
+    ∙ ap (λ file. asked file plan.job) (sym c.as_str.ensures)))
     c.over_file.ensures.shelf

@@ -16,9 +16,9 @@ use Rattle.pct_top.proofs.dispatch.over_file.Goals as goal
 pub returns-in-Err-clause-comes : goal.returns-in-Err-clause-comes
 returns-in-Err-clause-comes g c =
     let name = c.args.file.now in
-    let settings = asked name c.args.task.now in
-    let file = asked_file name c.args.task.now in
-    let text = asked_text name c.args.task.now in
+    let settings = asked name c.args.job.now in
+    let file = asked_file name c.args.job.now in
+    let text = asked_text name c.args.job.now in
     let before : ShelfTold = record {
       files = g.H.Shelf.files c.args.shelf.now;
       failed = g.H.Shelf.failed c.args.shelf.now;
@@ -37,9 +37,9 @@ returns-in-Err-clause-comes g c =
 pub returns-in-Ok-clause-comes : goal.returns-in-Ok-clause-comes
 returns-in-Ok-clause-comes g c =
     let name = c.args.file.now in
-    let settings = asked name c.args.task.now in
-    let file = asked_file name c.args.task.now in
-    let text = asked_text name c.args.task.now in
+    let settings = asked name c.args.job.now in
+    let file = asked_file name c.args.job.now in
+    let text = asked_text name c.args.job.now in
     let test = c.in-Ok.test in
     let script = plain_script test.script in
     let before : ShelfTold = record {
@@ -65,9 +65,9 @@ returns-in-Ok-clause-comes g c =
 pub returns-in-Err-clause-shelf : goal.returns-in-Err-clause-shelf
 returns-in-Err-clause-shelf g c =
     let name = c.args.file.now in
-    let settings = asked name c.args.task.now in
-    let file = asked_file name c.args.task.now in
-    let text = asked_text name c.args.task.now in
+    let settings = asked name c.args.job.now in
+    let file = asked_file name c.args.job.now in
+    let text = asked_text name c.args.job.now in
     let before : ShelfTold = record {
       files = g.H.Shelf.files c.args.shelf.now;
       failed = g.H.Shelf.failed c.args.shelf.now;
@@ -83,9 +83,9 @@ returns-in-Err-clause-shelf g c =
 pub returns-in-Ok-clause-shelf : goal.returns-in-Ok-clause-shelf
 returns-in-Ok-clause-shelf g c =
     let name = c.args.file.now in
-    let settings = asked name c.args.task.now in
-    let file = asked_file name c.args.task.now in
-    let text = asked_text name c.args.task.now in
+    let settings = asked name c.args.job.now in
+    let file = asked_file name c.args.job.now in
+    let text = asked_text name c.args.job.now in
     let test = c.in-Ok.test in
     let script = plain_script test.script in
     let before : ShelfTold = record {

@@ -3,13 +3,13 @@ use Rattle.script_parse.specs.States.{TellsFault}
 use Rattle.script_parse.specs.declared.fault.ScriptError.{ScriptError}
 use Rattle.script_parse.specs.declared.fault.ScriptError.TheVariants as scripts
 use Rattle.pct_top.specs.declared.refusal.Refusal.{Refusal}
-use Rattle.pct_top.specs.declared.test.Test.{Test}
+use Rattle.pct_top.specs.declared.test.ReadyTest.{ReadyTest}
 use Rattle.pct_top.specs.Refusing.{IsOfScript}
 use Rattle.pct_top.specs.Files.{GivesText}
 use Rattle.pct_top.proofs.files.large_test.Goals as goal
 
 -- the fault of a text is handed on
-gives_fault : (bytes : List ℕ) (error : ScriptError) (r : Result Test Refusal)
+gives_fault : (bytes : List ℕ) (error : ScriptError) (r : Result ReadyTest Refusal)
     → IsErrAnd r (IsOfScript error) → TellsFault error bytes → GivesText bytes r
 gives_fault bytes (scripts.Bad line kind) (Err refusal) is fault =
     subst (λ e. GivesText bytes (Err e)) (sym is) fault

@@ -16,16 +16,13 @@ returns-clause-run g c =
     let test = c.args.test.now in
     let plan = c.args.plan.now in
     let script = plain_script test.script in
-    let L : ℕ → Type 0 = λ limit. IfOk c.run_by_points.result (λ (run : WholeRun).
-    run_of script test.deal c.as_slice-order.result.now c.as_slice-points.result.now limit
-    ≡ Some (run.events, run.verdict)) in
     let O : List ℕ → Type 0 = λ order. IfOk c.run_by_points.result (λ (run : WholeRun).
     run_of script test.deal order c.as_slice-points.result.now plan.limit
     ≡ Some (run.events, run.verdict)) in
     let P : List ℕ → Type 0 = λ points. IfOk c.run_by_points.result (λ (run : WholeRun).
     run_of script test.deal plan.order points plan.limit ≡ Some (run.events, run.verdict)) in
     subst P c.as_slice-points.ensures (subst O c.as_slice-order.ensures
-    (subst L c.steps.ensures.number (c.run_by_points.ensures.run script c.requires.ready)))
+    (c.run_by_points.ensures.run script c.requires.ready))
 
 pub returns-clause-known : goal.returns-clause-known
 returns-clause-known g c =
@@ -34,8 +31,6 @@ returns-clause-known g c =
     let script = plain_script test.script in
     let ready = c.requires.ready in
     let plan = ByPoints c.as_slice-order.result.now c.as_slice-points.result.now in
-    let L : ℕ → Type 0 = λ steps. IfOk c.run_by_points.result (λ (run : WholeRun).
-    IsPlayed plan test.deal (bodies_of script) steps run.events (Ends run.verdict)) in
     IfOk-weaker c.run_by_points.result
     (λ (run : WholeRun).
     IsPlayed plan test.deal (bodies_of script) limit run.events (Ends run.verdict))
@@ -43,15 +38,12 @@ returns-clause-known g c =
     IsKnownRun script.names (trace_version script) limit run.events run.verdict)
     (λ run is. known-run script test.deal ready.sound ready.is_deal plan limit run.events
     run.verdict (Ends run.verdict) refl is)
-    (subst L c.steps.ensures.number (c.run_by_points.ensures.played script ready))
+    (c.run_by_points.ensures.played script ready)
 
 pub returns-clause-short : goal.returns-clause-short
 returns-clause-short g c =
-    let test = c.args.test.now in
-    let script = plain_script test.script in
     IfOk-weaker c.run_by_points.result
-    (λ (run : WholeRun). IsKnownRun script.names (trace_version script)
-    c.args.plan.now.limit run.events run.verdict)
+    (λ (run : WholeRun). length run.events ≤ c.args.plan.now.limit)
     (λ (run : WholeRun). length run.events ≤ 100000)
-    (λ run known. omega (arith, known.few, (c.steps.ensures.fits).1, c.steps.ensures.number))
-    (returns-clause-known g c)
+    (λ run few. omega (arith, few, (c.steps-most.ensures.fits).1, c.steps-most.ensures.number))
+    c.run_by_points.ensures.few

@@ -17,8 +17,8 @@ play-requires-clause-order g c κs within =
       is_order = subst IsOrder (sym order) (declared_is_order threads);
     }
 
-pub returns-clause-draws : goal.returns-clause-draws
-returns-clause-draws g c =
+pub returns : goal.returns
+returns g c =
     let test = c.args.test.now in
     let script = plain_script test.script in
     let ended : Run = (c.in_ok-run.run'.events, c.in_ok-run.run'.verdict) in
@@ -31,5 +31,5 @@ returns-clause-draws g c =
     ≡ Some ended in (
       ended,
       subst P c.new-points.ensures (subst O order c.in_ok-run.ensures.run),
-      c.max.ensures ∙ ap (λ n. max n 1) c.len.ensures,
+      c.new.ensures ∙ c.max.ensures ∙ ap (λ n. max n 1) c.len.ensures,
     )

@@ -9,6 +9,7 @@ use Rattle.std.proofs.lemmas.List.{take_all, length-take-le, length-map}
 use Rattle.pct_ask.specs.Numbers.{step_counts}
 use Rattle.pct_ask.specs.Pieces.{seen}
 use Rattle.pct_top.specs.Values.{items_of, points_in}
+use Rattle.pct_ask.specs.declared.limits.TheConstants.{MAX_POINTS}
 use Rattle.pct_top.proofs.values.points_in.Goals as goal
 
 all-pieces : (all pieces : List (List ℕ)) → pieces ≡ take 8 all → length pieces ≤ 7
@@ -25,7 +26,7 @@ few-points : (value : List ℕ) (pieces : List (List ℕ)) → pieces ≡ take 8
 few-points value pieces is few =
     let all = all-pieces (items_of value) pieces is few in
     let at_most = all.1 in
-    let within : nat_le (length (items_of value)) 7 ≡ true = grind (arith, nat_tests) in
+    let within : nat_le (length (items_of value)) MAX_POINTS ≡ true = grind (arith, nat_tests) in
     ap step_counts all.0
     ∙ sym (ap (λ b. if b then step_counts (items_of value) else None) within)
 

@@ -5,22 +5,22 @@ use Rattle.pct_top.specs.Printed.{printed_text}
 use Rattle.pct_top.specs.commands.Certify.{certificate_text}
 use Rattle.pct_top.specs.commands.KnownCertificate.{IsKnownCertificate}
 use Rattle.pct_top.proofs.KnownDirected.{known-certificate}
-use Rattle.pct_top.proofs.commands.certify.CertifyTask.certificate_of.Goals as goal
+use Rattle.pct_top.proofs.commands.certify.CertifyJob.certificate_of.Goals as goal
 
 pub write_certificate-requires : goal.write_certificate-requires
 write_certificate-requires g c =
-    let task = c.args.self.now in
+    let job = c.args.self.now in
     let test = c.args.test.now in
     let ready = c.requires.ready in
     let script = plain_script test.script in
     let certified = c.in_ok-certified.certified in
     subst (λ (names : NameLists). IsKnownCertificate names certified) (sym c.names.ensures)
-    (known-certificate script test.deal ready.sound ready.is_deal c.args.directive.now task.steps
-    task.limit certified (c.in_ok-certified.ensures script ready))
+    (known-certificate script test.deal ready.sound ready.is_deal c.args.directive.now job.steps
+    job.limit certified (c.in_ok-certified.ensures script ready))
 
 pub returns : goal.returns
 returns g c =
-    let task = c.args.self.now in
+    let job = c.args.self.now in
     let test = c.args.test.now in
     let script = plain_script test.script in
     let certified = c.in_ok-certified.certified in

@@ -10,15 +10,15 @@ ghost use Rattle.pct_top.specs.Outcome.{Comes};
 ghost use Rattle.pct_top.specs.Reads.{KeepsSecond, is_unread};
 ghost use Rattle.pct_top.specs.Call.{MissesSecond};
 
-use crate::commands::certify::CertifyTask;
-use crate::commands::every::SweepTask;
-use crate::commands::expose::ExposeTask;
-use crate::commands::replay::{ReplayTask, reply_to_file};
-use crate::commands::seeds::CampaignTask;
+use crate::commands::certify::CertifyJob;
+use crate::commands::every::SweepJob;
+use crate::commands::expose::ExposeJob;
+use crate::commands::replay::{ReplayJob, reply_to_file};
+use crate::commands::seeds::CampaignJob;
 use crate::outcome::Outcome;
 use crate::refusal::Refusal;
 use crate::reports::{OrderedRun, SeededRun};
-use crate::test::Test;
+use crate::test::ReadyTest;
 use pct_outside::{Gate, Shelf};
 use std::alloc::Global;
 use std::sync::Wait;
@@ -26,23 +26,23 @@ use std::thread::Threads;
 
 /// What a command does with the script of a file.
 #[derive(Debug, Drop)]
-pub enum Task {
+pub enum Job {
     Ordered(OrderedRun),
     Seeded(SeededRun),
-    Campaign(CampaignTask),
-    Replay(ReplayTask),
-    Expose(ExposeTask),
-    Certify(CertifyTask),
-    Sweep(SweepTask),
+    Campaign(CampaignJob),
+    Replay(ReplayJob),
+    Expose(ExposeJob),
+    Certify(CertifyJob),
+    Sweep(SweepJob),
 }
 
-impl Task {
+impl Job {
     /// What comes of it over a script, for which at most the second file is read.
     pub fn outcome<R: Threads + Wait + Sync, H: Shelf, G: Gate>(
         &self,
         rt: &R,
         alloc: Global,
-        test: &Test,
+        test: &ReadyTest,
         shelf: &mut H,
         gate: &G,
     ) -> Result<Outcome, Refusal>
@@ -60,19 +60,19 @@ impl Task {
         ensures files { H.files shelf.new ≡ H.files shelf.old }
     {
         match self {
-            Task::Ordered(run) => run.report_on(rt, alloc, test, gate),
-            Task::Seeded(run) => Ok(run.report_on(rt, alloc, test, gate)?),
-            Task::Campaign(campaign) => Ok(campaign.report_on(rt, alloc, test, gate)?),
-            Task::Replay(replay) => {
+            Job::Ordered(run) => run.report_on(rt, alloc, test, gate),
+            Job::Seeded(run) => Ok(run.report_on(rt, alloc, test, gate)?),
+            Job::Campaign(campaign) => Ok(campaign.report_on(rt, alloc, test, gate)?),
+            Job::Replay(replay) => {
                 reply_to_file(rt, alloc, test, replay.trace.as_str(), shelf, gate)
             }
-            Task::Expose(expose) => {
+            Job::Expose(expose) => {
                 expose.expose_file(rt, alloc, test, expose.directive.as_str(), shelf, gate)
             }
-            Task::Certify(certify) => {
+            Job::Certify(certify) => {
                 certify.certify_file(rt, alloc, test, certify.directive.as_str(), shelf, gate)
             }
-            Task::Sweep(sweep) => Ok(sweep.report_on(rt, alloc, test, gate)?),
+            Job::Sweep(sweep) => Ok(sweep.report_on(rt, alloc, test, gate)?),
         }
     }
 }

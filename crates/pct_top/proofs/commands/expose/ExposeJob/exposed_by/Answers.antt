@@ -10,17 +10,17 @@ use Rattle.directive_run.specs.declared.answers.Exposed.{Exposed}
 use Rattle.pct_top.specs.declared.outcome.Outcome.{Outcome}
 use Rattle.pct_top.specs.Outcome.{printed_of}
 use Rattle.pct_top.specs.commands.Expose.{TellsExposed, PrintsExposed}
-use Rattle.pct_top.proofs.commands.expose.ExposeTask.exposed_by.Goals as goal
+use Rattle.pct_top.proofs.commands.expose.ExposeJob.exposed_by.Goals as goal
 
 pub told_exposed-requires-clause-exposed : goal.told_exposed-requires-clause-exposed
 told_exposed-requires-clause-exposed g c =
-    let task = c.args.self.now in
+    let job = c.args.self.now in
     let test = c.args.test.now in
     let script = plain_script test.script in
     let O : List ℕ → Type 0 = λ order. Exposes test.deal (bodies_of script) order
-    c.args.directive.now.events task.steps task.limit c.in_ok-exposed.exposed in
+    c.args.directive.now.events job.steps job.limit c.in_ok-exposed.exposed in
     let L : ℕ → Type 0 = λ limit. Exposes test.deal (bodies_of script) c.as_slice.result.now
-    c.args.directive.now.events task.steps limit c.in_ok-exposed.exposed in
+    c.args.directive.now.events job.steps limit c.in_ok-exposed.exposed in
     subst O c.as_slice.ensures
     (subst L c.steps.ensures.number (c.in_ok-exposed.ensures script c.requires.ready))
 
@@ -34,15 +34,15 @@ told script deal order steps limit directive exposed (Err e) is h = tt
 
 pub returns : goal.returns
 returns g c =
-    let task = c.args.self.now in
+    let job = c.args.self.now in
     let test = c.args.test.now in
     let script = plain_script test.script in
     let exposed = c.in_ok-exposed.exposed in
     let O : List ℕ → Type 0 = λ order. Exposes test.deal (bodies_of script) order
-    c.args.directive.now.events task.steps task.limit exposed in
+    c.args.directive.now.events job.steps job.limit exposed in
     let L : ℕ → Type 0 = λ limit. Exposes test.deal (bodies_of script) c.as_slice.result.now
-    c.args.directive.now.events task.steps limit exposed in
-    told script test.deal c.args.order task.steps task.limit c.args.directive.now exposed
+    c.args.directive.now.events job.steps limit exposed in
+    told script test.deal c.args.order job.steps job.limit c.args.directive.now exposed
     c.told_exposed.result
     (subst O c.as_slice.ensures
     (subst L c.steps.ensures.number (c.in_ok-exposed.ensures script c.requires.ready)))

@@ -10,7 +10,7 @@ use Rattle.pct_top.specs.commands.Expose.{OfExpose}
 use Rattle.pct_top.specs.commands.Certify.{OfCertify}
 use Rattle.pct_top.proofs.Comes.{comes_as, gives_comes}
 use Rattle.pct_top.proofs.Shelves.{given_is_read}
-use Rattle.pct_top.proofs.task.Task.outcome.Goals as goal
+use Rattle.pct_top.proofs.job.Job.outcome.Goals as goal
 
 pub returns-in-Ordered-clause-comes : goal.returns-in-Ordered-clause-comes
 returns-in-Ordered-clause-comes g c =
@@ -30,15 +30,18 @@ returns-in-Ordered-clause-keeps g c =
       refl,
     ))
 
-pub returns-in_ok-report_on-in-Seeded-clause-comes : goal.returns-in_ok-report_on-in-Seeded-clause-comes
+pub returns-in_ok-report_on-in-Seeded-clause-comes :
+    goal.returns-in_ok-report_on-in-Seeded-clause-comes
 returns-in_ok-report_on-in-Seeded-clause-comes g c =
     rw c.in-Seeded.is (λ file files told. c.in_ok-report_on-in-Seeded.ensures)
 
-pub returns-in_ok-report_on-in-Campaign-clause-comes : goal.returns-in_ok-report_on-in-Campaign-clause-comes
+pub returns-in_ok-report_on-in-Campaign-clause-comes :
+    goal.returns-in_ok-report_on-in-Campaign-clause-comes
 returns-in_ok-report_on-in-Campaign-clause-comes g c =
     rw c.in-Campaign.is (λ file files told. c.in_ok-report_on-in-Campaign.ensures)
 
-pub returns-in_ok-report_on-in-Sweep-clause-comes : goal.returns-in_ok-report_on-in-Sweep-clause-comes
+pub returns-in_ok-report_on-in-Sweep-clause-comes :
+    goal.returns-in_ok-report_on-in-Sweep-clause-comes
 returns-in_ok-report_on-in-Sweep-clause-comes g c =
     rw c.in-Sweep.is (λ file files told. c.in_ok-report_on-in-Sweep.ensures)
 
@@ -64,11 +67,11 @@ returns-in-Expose-clause-comes g c =
     let told = g.H.Shelf.files c.args.shelf.now in
     let failed = g.H.Shelf.failed c.args.shelf.now in
     let failed' = g.H.Shelf.failed c.expose_file.new.shelf in
-    let task = c.in-Expose.expose in
+    let job = c.in-Expose.expose in
     let P : List ℕ → Type 0 = λ name. Comes
-    (λ files. OfExpose (take directive_bytes (files name)) task.order task.word task.steps
-    task.limit script test.deal)
-    told (Misses (Some name) failed failed' × OrderFits script.names (Some task.order))
+    (λ files. OfExpose (take directive_bytes (files name)) job.order job.word job.steps
+    job.limit script test.deal)
+    told (Misses (Some name) failed failed' × OrderFits script.names (Some job.order))
     c.expose_file.result in
     rw c.in-Expose.is (λ file. subst P c.as_str-in-Expose.ensures c.expose_file.ensures.comes)
 
@@ -79,12 +82,12 @@ returns-in-Certify-clause-comes g c =
     let told = g.H.Shelf.files c.args.shelf.now in
     let failed = g.H.Shelf.failed c.args.shelf.now in
     let failed' = g.H.Shelf.failed c.certify_file.new.shelf in
-    let task = c.in-Certify.certify in
+    let job = c.in-Certify.certify in
     let Of : List ℕ → Files → Printed → Type 0 = λ name files.
-    OfCertify (take directive_bytes (files name)) task.steps task.limit script test.deal in
+    OfCertify (take directive_bytes (files name)) job.steps job.limit script test.deal in
     let P : List ℕ → Type 0 = λ name.
     Comes (Of name) told (Misses (Some name) failed failed') c.certify_file.result in
-    let missed : Type 0 = Misses (Some task.directive) failed failed' in
-    rw c.in-Certify.is (λ file. comes_as (Of task.directive) told missed (missed × Unit {0})
+    let missed : Type 0 = Misses (Some job.directive) failed failed' in
+    rw c.in-Certify.is (λ file. comes_as (Of job.directive) told missed (missed × Unit {0})
     (λ m. (m, tt)) c.certify_file.result
     (subst P c.as_str-in-Certify.ensures c.certify_file.ensures.comes))

@@ -5,11 +5,11 @@ use Rattle.pct_top.specs.Files.{Misses, GivesDirective, HasDirective}
 use Rattle.pct_top.specs.Outcome.{printed_of}
 use Rattle.pct_top.specs.commands.Certify.{PrintsCertificate}
 use Rattle.pct_top.proofs.Comes.{directive_refused, directive_shown}
-use Rattle.pct_top.proofs.commands.certify.CertifyTask.certify_file.Goals as goal
+use Rattle.pct_top.proofs.commands.certify.CertifyJob.certify_file.Goals as goal
 
 pub returns-in-Err-clause-comes : goal.returns-in-Err-clause-comes
 returns-in-Err-clause-comes g c =
-    let task = c.args.self.now in
+    let job = c.args.self.now in
     let test = c.args.test.now in
     let script = plain_script test.script in
     let told = g.H.Shelf.files c.args.shelf.now in
@@ -19,12 +19,13 @@ returns-in-Err-clause-comes g c =
     let G : NameLists → Type 0 = λ names.
     GivesDirective told file names missed (Err c.in-Err.refusal) in
     directive_refused told file script.names
-    (PrintsCertificate script test.deal task.steps task.limit) missed c.in-Err.refusal
+    (PrintsCertificate script test.deal job.steps job.limit) missed c.in-Err.refusal
     (subst G c.names.ensures c.in-Err.ensures.told)
 
-pub returns-in_ok-certificate_of-in-Ok-clause-comes : goal.returns-in_ok-certificate_of-in-Ok-clause-comes
+pub returns-in_ok-certificate_of-in-Ok-clause-comes :
+    goal.returns-in_ok-certificate_of-in-Ok-clause-comes
 returns-in_ok-certificate_of-in-Ok-clause-comes g c =
-    let task = c.args.self.now in
+    let job = c.args.self.now in
     let test = c.args.test.now in
     let script = plain_script test.script in
     let told = g.H.Shelf.files c.args.shelf.now in
@@ -34,6 +35,6 @@ returns-in_ok-certificate_of-in-Ok-clause-comes g c =
     let plan = c.in-Ok.plan in
     let H : NameLists → Type 0 = λ names. HasDirective told file names plan in
     directive_shown told file script.names
-    (PrintsCertificate script test.deal task.steps task.limit) missed plan
+    (PrintsCertificate script test.deal job.steps job.limit) missed plan
     (printed_of c.in_ok-certificate_of-in-Ok.field-0) (subst H c.names.ensures c.in-Ok.ensures.told)
     c.in_ok-certificate_of-in-Ok.ensures
