@@ -20,10 +20,10 @@ use Rattle.directive.specs.Reading.{read_from_first}
 use Rattle.directive.specs.Seen.{Fails}
 use Rattle.directive.specs.declared.fault.DirectiveError.{DirectiveError}
 use Rattle.directive.specs.declared.fault.DirectiveError.TheVariants.{Bad}
-use Rattle.directive.specs.declared.row.Row.{Row}
-use Rattle.directive.specs.declared.row.Row.TheVariants.{After, End}
-use Rattle.directive.specs.declared.row.Sound.{Sound}
-use Rattle.directive.specs.declared.row.Sound.TheVariants as sound
+use Rattle.directive.specs.declared.row.DirectiveRow.{DirectiveRow}
+use Rattle.directive.specs.declared.row.DirectiveRow.TheVariants.{After, End}
+use Rattle.directive.specs.declared.row.SoundDirectiveRow.{SoundDirectiveRow}
+use Rattle.directive.specs.declared.row.SoundDirectiveRow.TheVariants as sound
 use Rattle.directive.specs.declared.fault.DirectiveFault.{DirectiveFault}
 use Rattle.directive.specs.declared.fault.DirectiveFault.TheVariants.{TooLong, BadHeader}
 use Rattle.directive.specs.declared.fault.DirectiveFault.TheVariants.{MoreAfterVerdict}
@@ -72,7 +72,7 @@ with_moments-push front moment (Ok body) =
 with_moments-push front moment (Err fault) = refl
 
 -- a line with its LF, and the text after it
-abbrev pub line_then : ℕ → Result Sound DirectiveFault → List ℕ → Result Body Fault
+abbrev pub line_then : ℕ → Result SoundDirectiveRow DirectiveFault → List ℕ → Result Body Fault
     → Result Body Fault
 line_then k (Err kind) after others = Err (k, kind)
 line_then k (Ok (sound.Event moment)) after others = with_moment moment others
@@ -104,7 +104,7 @@ body_at_verdict-after k verdict [] piece pieces others is =
 body_at_verdict-after k verdict (b ∷ bs) piece pieces others is =
     body_at_verdict-more (b == 10) (k + 1) verdict b bs piece pieces is
 
-row-then : (k : ℕ) (read : Result Sound DirectiveFault) (after piece : List ℕ)
+row-then : (k : ℕ) (read : Result SoundDirectiveRow DirectiveFault) (after piece : List ℕ)
     (pieces : List (List ℕ)) (others : Result Body Fault) → pieces_of after ≡ piece ∷ pieces
     → after_row k read piece pieces others ≡ line_then k read after others
 row-then k (Err kind) after piece pieces others is = refl
@@ -114,7 +114,7 @@ row-then k (Ok (sound.Last verdict)) after piece pieces others is =
 
 -- a line that has its LF
 pub body-line : (names : NameLists) (k : ℕ) (pieces : List (List ℕ)) (text after : List ℕ)
-    (row : Option Row) → pieces ≡ text ∷ pieces_of after → row ≡ row_of names text
+    (row : Option DirectiveRow) → pieces ≡ text ∷ pieces_of after → row ≡ row_of names text
     → body_of names k pieces ≡ line_then k (line_or_fault k row) after
     (body_of names (k + 1) (pieces_of after))
 body-line names k pieces text after row is says =
@@ -130,7 +130,7 @@ body-line names k pieces text after row is says =
 
 -- a line that lacks its LF
 pub body-unended : (names : NameLists) (k : ℕ) (pieces : List (List ℕ)) (text : List ℕ)
-    (row : Option Row) → pieces ≡ text ∷ [] → row ≡ row_of names text
+    (row : Option DirectiveRow) → pieces ≡ text ∷ [] → row ≡ row_of names text
     → body_of names k pieces ≡ Err (k, unended_fault k row text)
 body-unended names k pieces text row is says =
     ap (body_of names k) is ∙ ap (λ r. Err (k, unended_fault k r text)) (sym says)
@@ -139,8 +139,9 @@ body-unended names k pieces text row is says =
 
 -- a line that has its LF, after the moments before
 pub body-read : (names : NameLists) (k : ℕ) (events : List Moment) (pieces : List (List ℕ))
-    (text : List ℕ) (rest : Option (Bor (List ℕ))) (after : Bor (List ℕ)) (row : Option Row)
-    (read : Result Sound DirectiveFault) (start : Result Body Fault)
+    (text : List ℕ) (rest : Option (Bor (List ℕ))) (after : Bor (List ℕ))
+    (row : Option DirectiveRow)
+    (read : Result SoundDirectiveRow DirectiveFault) (start : Result Body Fault)
     → with_moments events (body_of names k pieces) ≡ start → pieces ≡ text ∷ pieces_after rest
     → rest ≡ Some after → row ≡ row_of names text → line_or_fault k row ≡ read
     → start ≡ with_moments events (line_then k read after.now
@@ -175,7 +176,7 @@ late-event true k thread number moment e h =
 late-event false k thread number moment e h = grind (arith, nat_tests)
 
 -- a moment stands on one of the lines up to 9
-pub line_or_fault-within : (k : ℕ) (row : Option Row) (moment : Moment)
+pub line_or_fault-within : (k : ℕ) (row : Option DirectiveRow) (moment : Moment)
     → line_or_fault k row ≡ Ok (sound.Event moment) → k ≤ 9
 line_or_fault-within k None moment h = absurd cc
 line_or_fault-within k (Some (After thread number)) moment h =

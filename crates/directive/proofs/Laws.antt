@@ -28,7 +28,7 @@ use Rattle.directive.specs.Reading.{after_row, body_of, told_of, low_known, low_
 use Rattle.directive.specs.Reading.{read_from_first, read_as_directive}
 use Rattle.directive.specs.Seen.{Gives}
 use Rattle.directive.specs.declared.directive.Directive.{Directive}
-use Rattle.directive.specs.declared.row.Sound.TheVariants as sound
+use Rattle.directive.specs.declared.row.SoundDirectiveRow.TheVariants as sound
 use Rattle.directive.specs.declared.fault.DirectiveFault.{DirectiveFault}
 use Rattle.directive.specs.declared.fault.DirectiveFault.TheVariants.{TooLong, BadHeader}
 use Rattle.directive.specs.declared.fault.DirectiveError.{DirectiveError}

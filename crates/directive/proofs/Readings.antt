@@ -19,8 +19,8 @@ use Rattle.directive.specs.Directive.{IsMoment}
 use Rattle.directive.specs.Faults.{IsBelowSecond, IsFaulty, IsFirstFault}
 use Rattle.directive.specs.Reading.{Fault, Body, row_of, unended_fault, line_or_fault}
 use Rattle.directive.specs.Reading.{judged_moment, with_moment, body_at_verdict, after_row, body_of}
-use Rattle.directive.specs.declared.row.Row.{Row}
-use Rattle.directive.specs.declared.row.Row.TheVariants.{After, End}
+use Rattle.directive.specs.declared.row.DirectiveRow.{DirectiveRow}
+use Rattle.directive.specs.declared.row.DirectiveRow.TheVariants.{After, End}
 use Rattle.directive.specs.declared.fault.DirectiveFault.{DirectiveFault}
 use Rattle.directive.specs.declared.fault.DirectiveFault.TheVariants.{TooLong, BadLine, UnknownName}
 use Rattle.directive.specs.declared.fault.DirectiveFault.TheVariants.{MoreAfterVerdict}
@@ -52,7 +52,7 @@ made text whole = record { text = text; whole = whole }
 module _ (size : ℕ) (names : NameLists) (valid : AreNames names) (all : List (List ℕ)) (k : ℕ)
     (sound_to : SoundTo size names all k) (below : IsBelowSecond names all k) where
   -- a line with no LF
-  unended-told : (text : List ℕ) (row : Option Row) → line_at all k ≡ made text false
+  unended-told : (text : List ℕ) (row : Option DirectiveRow) → line_at all k ≡ made text false
       → RowTold names text row → IsFirstFault size names all k (unended_fault k row text)
   unended-told [] None here h =
       first-no-verdict size names all k sound_to below
@@ -289,7 +289,7 @@ body-told size names valid all (piece ∷ after ∷ pieces) n left low sound_to 
     after_by false thread number e h further =
         moment h.0 number thread h.1 h.2 (grind (arith, nat_tests)) sound_to further
 
-    by : (row : Option Row) → RowTold names piece row → Further
+    by : (row : Option DirectiveRow) → RowTold names piece row → Further
         → BodyTold size names all (n + 1) (piece ∷ after ∷ pieces)
         (after_row (n + 1) (line_or_fault (n + 1) row) after pieces
         (body_of names (n + 1 + 1) (after ∷ pieces)))

@@ -23,8 +23,8 @@ use Rattle.directive.specs.Forms.{IsNumber, IsLowLine, IsAfter, IsVerdict, IsAft
 use Rattle.directive.specs.Forms.{IsVerdictText}
 use Rattle.directive.specs.Forms.{HasUnknownVerdict}
 use Rattle.directive.specs.Reading.{low_words, low_in, moment_row, after_words, end_of, row_of}
-use Rattle.directive.specs.declared.row.Row.{Row}
-use Rattle.directive.specs.declared.row.Row.TheVariants.{After, End}
+use Rattle.directive.specs.declared.row.DirectiveRow.{DirectiveRow}
+use Rattle.directive.specs.declared.row.DirectiveRow.TheVariants.{After, End}
 use Rattle.pct_ask.specs.Numbers.{step_count}
 use Rattle.pct_ask.proofs.laws.Decimals.{number_in-decimal, number_in-Some}
 use Rattle.directive.proofs.Bodies.{row-after}
@@ -119,7 +119,7 @@ row_of-IsAfter names text name number is =
           (omega arith) refl,
     )
 
-record Moments (names : NameLists) (words : List (List ℕ)) (row : Row) : Type 0 where
+record Moments (names : NameLists) (words : List (List ℕ)) (row : DirectiveRow) : Type 0 where
   name : List ℕ
   number : ℕ
   lawful_name : is_name 1 name ≡ true
@@ -128,7 +128,7 @@ record Moments (names : NameLists) (words : List (List ℕ)) (row : Row) : Type 
   row_is : After (place_of name names.threads) number ≡ row
 
 moment-by : (names : NameLists) (b c : Bool) (head name digits : List ℕ) (number : Option ℕ)
-    (row : Row) → bytes_eq head (codes "after") ≡ b → is_name 1 name ≡ c
+    (row : DirectiveRow) → bytes_eq head (codes "after") ≡ b → is_name 1 name ≡ c
     → step_count digits ≡ number → (if b then moment_row names
     (if c then Some name else None) number else None) ≡ Some row
     → Moments names (head ∷ name ∷ digits ∷ []) row
@@ -148,7 +148,7 @@ moment-by names true true head name digits None row e f g h = absurd cc
 moment-by names true false head name digits number row e f g h = absurd cc
 moment-by names false c head name digits number row e f g h = absurd cc
 
-moment-spelled : (names : NameLists) (words : List (List ℕ)) (row : Row)
+moment-spelled : (names : NameLists) (words : List (List ℕ)) (row : DirectiveRow)
     → after_words names words ≡ Some row → Moments names words row
 moment-spelled names [] row h = absurd cc
 moment-spelled names (a ∷ []) row h = absurd cc
@@ -194,7 +194,7 @@ told-known names text verdict sound is other =
 
 -- ---- a line after the second
 
-abbrev pub RowTold : NameLists → List ℕ → Option Row → Type 0
+abbrev pub RowTold : NameLists → List ℕ → Option DirectiveRow → Type 0
 RowTold names text None = (¬ IsAfterText text) × (¬ IsVerdictText names text)
 RowTold names text (Some (After thread number)) =
     (name : List ℕ) × IsAfter text name number × (place_of name names.threads ≡ thread)
@@ -226,7 +226,7 @@ no-verdict names text other = λ v.
     let both : true ≡ false = sym is ∙ other in
     cc
 
-after-told : (names : NameLists) (text : List ℕ) (row : Option Row)
+after-told : (names : NameLists) (text : List ℕ) (row : Option DirectiveRow)
     → bytes_eq (take 8 text) (codes "verdict ") ≡ false → after_words names (words_of text) ≡ row
     → RowTold names text row
 after-told names text None other h = (
@@ -238,7 +238,7 @@ after-told names text None other h = (
 )
 after-told names text (Some row) other h =
     let m = moment-spelled names (words_of text) row h in
-    subst (λ (r : Row). RowTold names text (Some r)) m.row_is (
+    subst (λ (r : DirectiveRow). RowTold names text (Some r)) m.row_is (
       m.name,
       record {
         lawful = m.lawful_name;

@@ -13,10 +13,10 @@ use Rattle.pct_ask.specs.declared.verdict_text.VerdictRead.TheVariants.{UnknownN
 use Rattle.rank_now.specs.declared.moment.Moment.{Moment}
 use Rattle.directive.specs.DirectiveText.{DirectiveText}
 use Rattle.pct_ask.specs.Pieces.{pieces_of}
-use Rattle.directive.specs.declared.row.Row.{Row}
-use Rattle.directive.specs.declared.row.Row.TheVariants.{After, End}
-use Rattle.directive.specs.declared.row.Sound.{Sound}
-use Rattle.directive.specs.declared.row.Sound.TheVariants as sound
+use Rattle.directive.specs.declared.row.DirectiveRow.{DirectiveRow}
+use Rattle.directive.specs.declared.row.DirectiveRow.TheVariants.{After, End}
+use Rattle.directive.specs.declared.row.SoundDirectiveRow.{SoundDirectiveRow}
+use Rattle.directive.specs.declared.row.SoundDirectiveRow.TheVariants as sound
 use Rattle.directive.specs.declared.fault.DirectiveFault.{DirectiveFault}
 use Rattle.directive.specs.declared.fault.DirectiveFault.TheVariants.{TooLong, BadHeader, BadLine}
 use Rattle.directive.specs.declared.fault.DirectiveFault.TheVariants.{UnknownName, NoVerdict}
@@ -36,45 +36,45 @@ low_words words = None
 unfoldable pub low_in : List ℕ → Option (List ℕ)
 low_in text = low_words (words_of text)
 
-abbrev pub moment_row : NameLists → Option (List ℕ) → Option ℕ → Option Row
+abbrev pub moment_row : NameLists → Option (List ℕ) → Option ℕ → Option DirectiveRow
 moment_row names None number = None
 moment_row names (Some name) None = None
 moment_row names (Some name) (Some number) = Some (After (place_of name names.threads) number)
 
-abbrev pub moment_of : NameLists → List ℕ → List ℕ → Option Row
+abbrev pub moment_of : NameLists → List ℕ → List ℕ → Option DirectiveRow
 moment_of names name number = moment_row names (lawful name) (step_count number)
 
 -- the moment that an `after` line tells by its words
-abbrev pub after_words : NameLists → List (List ℕ) → Option Row
+abbrev pub after_words : NameLists → List (List ℕ) → Option DirectiveRow
 after_words names (head ∷ name ∷ number ∷ []) =
     if bytes_eq head (codes "after") then moment_of names name number else None
 after_words names words = None
 
-abbrev pub end_of : VerdictRead → Option Row
+abbrev pub end_of : VerdictRead → Option DirectiveRow
 end_of NoForm = None
 end_of Unknown = Some (End None)
 end_of (Is verdict) = Some (End (Some verdict))
 
 -- what a line after the second says by form
-unfoldable pub row_of : NameLists → List ℕ → Option Row
+unfoldable pub row_of : NameLists → List ℕ → Option DirectiveRow
 row_of names text =
     if bytes_eq (take 8 text) (codes "verdict ")
     then end_of (verdict_of_words names (words_of (drop 8 text)))
     else after_words names (words_of text)
 
 -- the fault of line k where it has no LF
-abbrev pub unended_fault : ℕ → Option Row → List ℕ → DirectiveFault
+abbrev pub unended_fault : ℕ → Option DirectiveRow → List ℕ → DirectiveFault
 unended_fault k None [] = NoVerdict
 unended_fault k None (b ∷ bs) = BadLine
 unended_fault k (Some (After thread number)) text = if nat_lt 9 k then TooLong else BadLine
 unended_fault k (Some (End verdict)) text = BadLine
 
-abbrev pub judged_moment : Option ℕ → ℕ → Result Sound DirectiveFault
+abbrev pub judged_moment : Option ℕ → ℕ → Result SoundDirectiveRow DirectiveFault
 judged_moment None number = Err UnknownName
 judged_moment (Some thread) number = Ok (sound.Event (record { thread = thread; number = number }))
 
 -- what line k is where it has its LF, or its fault
-abbrev pub line_or_fault : ℕ → Option Row → Result Sound DirectiveFault
+abbrev pub line_or_fault : ℕ → Option DirectiveRow → Result SoundDirectiveRow DirectiveFault
 line_or_fault k None = Err BadLine
 line_or_fault k (Some (After thread number)) =
     if nat_lt 9 k then Err TooLong else judged_moment thread number
@@ -94,7 +94,8 @@ body_at_verdict k verdict [] [] = Ok ([], verdict)
 body_at_verdict k verdict [] (piece ∷ pieces) = Err (k, MoreAfterVerdict)
 body_at_verdict k verdict (b ∷ bs) pieces = Err (k, MoreAfterVerdict)
 
-abbrev pub after_row : ℕ → Result Sound DirectiveFault → List ℕ → List (List ℕ) → Result Body Fault
+abbrev pub after_row : ℕ → Result SoundDirectiveRow DirectiveFault → List ℕ → List (List ℕ)
+    → Result Body Fault
     → Result Body Fault
 after_row k (Err kind) piece pieces others = Err (k, kind)
 after_row k (Ok (sound.Event moment)) piece pieces others = with_moment moment others

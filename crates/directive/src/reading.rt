@@ -14,7 +14,7 @@ ghost use Rattle.pct_ask.specs.declared.limits.TheConstants.{MAX_POINTS};
 
 use crate::directive::Directive;
 use crate::fault::{DirectiveError, DirectiveFault};
-use crate::row::{Sound, line_or_fault, low_in, read_row, unended_fault};
+use crate::row::{SoundDirectiveRow, line_or_fault, low_in, read_row, unended_fault};
 use pct_ask::{NameKind, Names, Verdict, cut_line};
 use policy_pick::MomentList;
 use std::alloc::Global;
@@ -86,8 +86,8 @@ fn read_body(alloc: Global, names: &Names, text: &[u8]) -> Result<Body, Directiv
         };
         match line_or_fault(line, row) {
             Err(kind) => return Err(bad(line, kind)),
-            Ok(Sound::Event(moment)) => events.try_push(moment)?,
-            Ok(Sound::Last(verdict)) => {
+            Ok(SoundDirectiveRow::Event(moment)) => events.try_push(moment)?,
+            Ok(SoundDirectiveRow::Last(verdict)) => {
                 if after.is_empty() {
                     return Ok(Body { events, verdict });
                 }

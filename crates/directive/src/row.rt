@@ -21,14 +21,14 @@ const VERDICT: &[u8] = b"verdict ";
 
 /// What a line says. Where one of its names is no thread's, there is no thread and no verdict.
 #[derive(Clone, Copy)]
-pub enum Row {
+pub enum DirectiveRow {
     After { thread: Option<u32>, number: u32 },
     End { verdict: Option<Verdict> },
 }
 
 /// What a sound line says.
 #[derive(Clone, Copy)]
-pub enum Sound {
+pub enum SoundDirectiveRow {
     Event(Moment),
     Last(Verdict),
 }
@@ -61,17 +61,17 @@ pub fn low_in(alloc: Global, line: &[u8]) -> Result<Option<&[u8]>, NoMemory>
     Ok(low_words(words.as_slice()))
 }
 
-fn moment_of(names: &Names, name: &[u8], number: &[u8]) -> Option<Row>
+fn moment_of(names: &Names, name: &[u8], number: &[u8]) -> Option<DirectiveRow>
     ensures { result ≡ reading.moment_of names.now name.now number.now }
 {
     let name = lawful(name)?;
     let number = step_count(number)?;
     let thread = names.find(NameKind::Thread, name);
-    Some(Row::After { thread, number })
+    Some(DirectiveRow::After { thread, number })
 }
 
 /// The moment that the words of a line tell.
-fn after_words(names: &Names, words: &[&[u8]]) -> Option<Row>
+fn after_words(names: &Names, words: &[&[u8]]) -> Option<DirectiveRow>
     ensures { result ≡ reading.after_words names.now (seen words.now) }
 {
     match words {
@@ -80,13 +80,13 @@ fn after_words(names: &Names, words: &[&[u8]]) -> Option<Row>
     }
 }
 
-fn read_end(names: &Names, text: &[u8]) -> Option<Row>
+fn read_end(names: &Names, text: &[u8]) -> Option<DirectiveRow>
     ensures { result ≡ reading.end_of (verdict_of_words names.now (words_of text.now)) }
 {
     match read_verdict(text, names) {
         VerdictRead::NoForm => None,
-        VerdictRead::UnknownName => Some(Row::End { verdict: None }),
-        VerdictRead::Is(verdict) => Some(Row::End {
+        VerdictRead::UnknownName => Some(DirectiveRow::End { verdict: None }),
+        VerdictRead::Is(verdict) => Some(DirectiveRow::End {
             verdict: Some(verdict),
         }),
     }
@@ -94,7 +94,7 @@ fn read_end(names: &Names, text: &[u8]) -> Option<Row>
 
 /// What a line says, where it has a form.
 #[tactic(auto, unfolding(crate::specs::Reading::row_of))]
-pub fn read_row(alloc: Global, names: &Names, line: &[u8]) -> Result<Option<Row>, NoMemory>
+pub fn read_row(alloc: Global, names: &Names, line: &[u8]) -> Result<Option<DirectiveRow>, NoMemory>
     ensures { IfOk result (λ row. row ≡ reading.row_of names.now line.now) }
 {
     match line.strip_prefix(VERDICT) {
@@ -107,33 +107,36 @@ pub fn read_row(alloc: Global, names: &Names, line: &[u8]) -> Result<Option<Row>
 }
 
 /// The fault of a line with no LF.
-pub fn unended_fault(line: u32, row: Option<Row>, text: &[u8]) -> DirectiveFault
+pub fn unended_fault(line: u32, row: Option<DirectiveRow>, text: &[u8]) -> DirectiveFault
     ensures { result ≡ reading.unended_fault line row text.now }
 {
     match row {
         None if text.is_empty() => DirectiveFault::NoVerdict,
-        Some(Row::After { .. }) if line > 9 => DirectiveFault::TooLong,
+        Some(DirectiveRow::After { .. }) if line > 9 => DirectiveFault::TooLong,
         _ => DirectiveFault::BadLine,
     }
 }
 
 /// What a line with its LF says, or its fault. The lines 3 to 9 are the seven that a moment may
 /// have.
-pub fn line_or_fault(line: u32, row: Option<Row>) -> Result<Sound, DirectiveFault>
+pub fn line_or_fault(
+    line: u32,
+    row: Option<DirectiveRow>,
+) -> Result<SoundDirectiveRow, DirectiveFault>
     ensures { result ≡ reading.line_or_fault line row }
 {
     match row {
         None => Err(DirectiveFault::BadLine),
-        Some(Row::After { .. }) if line > 9 => Err(DirectiveFault::TooLong),
-        Some(Row::After { thread, number }) => match thread {
+        Some(DirectiveRow::After { .. }) if line > 9 => Err(DirectiveFault::TooLong),
+        Some(DirectiveRow::After { thread, number }) => match thread {
             None => Err(DirectiveFault::UnknownName),
-            Some(thread) => Ok(Sound::Event(Moment { thread, number })),
+            Some(thread) => Ok(SoundDirectiveRow::Event(Moment { thread, number })),
         },
-        Some(Row::End { verdict: None }) => Err(DirectiveFault::UnknownName),
+        Some(DirectiveRow::End { verdict: None }) => Err(DirectiveFault::UnknownName),
         Some(
-            Row::End {
+            DirectiveRow::End {
                 verdict: Some(verdict),
             },
-        ) => Ok(Sound::Last(verdict)),
+        ) => Ok(SoundDirectiveRow::Last(verdict)),
     }
 }

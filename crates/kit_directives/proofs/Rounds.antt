@@ -7,8 +7,8 @@ use Rattle.pct_ask.specs.declared.deal.Deal.{Deal}
 use Rattle.pct_ask.specs.declared.verdict.Verdict.{Verdict}
 use Rattle.rank_now.specs.declared.moment.Moment.{Moment}
 use Rattle.kit_directives.specs.Directed.{LeadsTo}
-use Rattle.kit_directives.specs.Found.{HasOther, NeedsFirst, IsLeftOf, Without, Leaves}
-use Rattle.kit_directives.specs.declared.reducing.Short.{Short}
+use Rattle.kit_directives.specs.Finding.{HasOther, NeedsFirst, IsLeftOf, Without, Leaves}
+use Rattle.kit_directives.specs.declared.reducing.ShortMoments.{ShortMoments}
 
 module _ (deal : Deal) (order : List ℕ) (limit : ℕ) (verdict : Verdict) where
   module _ (moments rest : List Moment) (place : ℕ) (is : rest ≡ remove moments place) where
@@ -34,32 +34,33 @@ module _ (deal : Deal) (order : List ℕ) (limit : ℕ) (verdict : Verdict) wher
       (place, within, is, subst L same (subst I some leads))
 
   -- what a call told of the moments that it was lent
-  module _ (moments lent : List Moment) (told : Option Short) (same : lent ≡ moments) where
-    pub some-leaves : (short : Short) → told ≡ Some short
+  module _ (moments lent : List Moment) (told : Option ShortMoments) (same : lent ≡ moments) where
+    pub some-leaves : (short : ShortMoments) → told ≡ Some short
         → Leaves deal order limit verdict lent told
         → Leaves deal order limit verdict moments (Some short)
     some-leaves short is leaves =
-        let T : Option Short → Type 0 = λ t. Leaves deal order limit verdict moments t in
+        let T : Option ShortMoments → Type 0 = λ t. Leaves deal order limit verdict moments t in
         let E : List Moment → Type 0 = λ es. Leaves deal order limit verdict es told in
         subst T is (subst E same leaves)
 
     pub none-leaves : told ≡ None → Leaves deal order limit verdict lent told
         → NeedsFirst deal order limit verdict moments (length moments)
     none-leaves is leaves =
-        let T : Option Short → Type 0 = λ t. Leaves deal order limit verdict moments t in
+        let T : Option ShortMoments → Type 0 = λ t. Leaves deal order limit verdict moments t in
         let E : List Moment → Type 0 = λ es. Leaves deal order limit verdict es told in
         subst T is (subst E same leaves)
 
   -- what is left after a round is left of all
-  pub one-round : (all moments : List Moment) (short : Short)
+  pub one-round : (all moments : List Moment) (short : ShortMoments)
       → Leaves deal order limit verdict moments (Some short) → IsLeftOf all moments
       → IsLeftOf all short.moments
   one-round all moments short leaves left =
       let L : List Moment → Type 0 = λ ms. IsLeftOf all ms in
       subst L (sym leaves.2) (Without all moments leaves.0 leaves.1 left)
 
-pub some-fewer : (lent : List Moment) (told : Option Short) (short : Short) → told ≡ Some short
+pub some-fewer : (lent : List Moment) (told : Option ShortMoments) (short : ShortMoments)
+    → told ≡ Some short
     → IfSome told (λ s. length s.moments < length lent) → length short.moments < length lent
 some-fewer lent told short is fewer =
-    let T : Option Short → Type 0 = λ t. IfSome t (λ s. length s.moments < length lent) in
+    let T : Option ShortMoments → Type 0 = λ t. IfSome t (λ s. length s.moments < length lent) in
     subst T is fewer

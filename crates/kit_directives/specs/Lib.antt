@@ -1,3 +1,3 @@
 pub mod Directed
-pub mod Found
+pub mod Finding
 pub mod Certified

@@ -6,10 +6,10 @@ ghost use Rattle.choices.specs.Moments.{moments_of};
 ghost use Rattle.choices.specs.Orders.{EndsIn};
 ghost use Rattle.kit_runs.specs.Runs.{IsFileOf};
 ghost use Rattle.kit_directives.specs.Directed.{LeadsTo};
-ghost use Rattle.kit_directives.specs.Found.{Finds};
+ghost use Rattle.kit_directives.specs.Finding.{Finds};
 ghost use Rattle.pct_ask.specs.declared.limits.TheConstants.{MAX_POINTS, MAX_STEPS};
 
-use crate::reducing::{Short, reduce, steps_to};
+use crate::reducing::{ShortMoments, reduce, steps_to};
 use choices::moments_of;
 use directive::Directive;
 use kit_runs::{Program, RunError, run_program};
@@ -21,7 +21,7 @@ use trace_text::{Header, TraceFile};
 
 /// What a run comes to.
 #[derive(Debug, Drop)]
-pub enum Found {
+pub enum Finding {
     /// The directive leads to the run's verdict under its order, each of its moments is needed, and
     /// its run has this number of steps.
     Fails { directive: Directive, steps: u32 },
@@ -49,7 +49,7 @@ fn whole_moments<R: Threads + Wait + Sync, T: Program + Sync>(
     limit: u32,
     made: &TraceFile,
     program: &T,
-) -> Result<Short, RunError>
+) -> Result<ShortMoments, RunError>
     requires some_steps { 1 ≤ limit }
     requires few_steps { limit ≤ MAX_STEPS }
     requires few_points { length points.now ≤ MAX_POINTS }
@@ -66,7 +66,7 @@ fn whole_moments<R: Threads + Wait + Sync, T: Program + Sync>(
     let all = moments.as_slice();
     let verdict = &made.verdict;
     match steps_to(rt, alloc, deal, order, all, limit, verdict, program)? {
-        Some(steps) => Ok(Short { moments, steps }),
+        Some(steps) => Ok(ShortMoments { moments, steps }),
         None => Err(RunError::Unsteady),
     }
 }
@@ -81,7 +81,7 @@ fn shorten<R: Threads + Wait + Sync, T: Program + Sync>(
     limit: u32,
     made: &TraceFile,
     program: &T,
-) -> Result<Found, RunError>
+) -> Result<Finding, RunError>
     requires some_steps { 1 ≤ limit }
     requires few_steps { limit ≤ MAX_STEPS }
     requires few_points { length points.now ≤ MAX_POINTS }
@@ -95,7 +95,7 @@ fn shorten<R: Threads + Wait + Sync, T: Program + Sync>(
     let low = last_of(order)?;
     let whole = whole_moments(rt, alloc, deal, order, points, limit, made, program)?;
     let short = reduce(rt, alloc, deal, order, whole, limit, &made.verdict, program)?;
-    Ok(Found::Fails {
+    Ok(Finding::Fails {
         directive: Directive {
             low,
             events: short.moments,
@@ -114,7 +114,7 @@ fn find_of<R: Threads + Wait + Sync, T: Program + Sync>(
     points: &[u32],
     limit: u32,
     program: &T,
-) -> Result<Found, RunError>
+) -> Result<Finding, RunError>
     requires some_steps { 1 ≤ limit }
     requires few_steps { limit ≤ MAX_STEPS }
     requires few_points { length points.now ≤ MAX_POINTS }
@@ -127,7 +127,7 @@ fn find_of<R: Threads + Wait + Sync, T: Program + Sync>(
     let made = run_program(rt, alloc, own, order, points, limit, program)?;
     if made.verdict.is(&Verdict::Passed) {
         let steps = made.events.len() as u32;
-        return Ok(Found::Passes { steps });
+        return Ok(Finding::Passes { steps });
     }
     let found = shorten(rt, alloc, deal, order, points, limit, &made, program);
     drop(made);
@@ -142,7 +142,7 @@ pub fn find<R: Threads + Wait + Sync, T: Program + Sync>(
     deal: &Deal,
     header: &Header,
     program: &T,
-) -> Result<Found, RunError>
+) -> Result<Finding, RunError>
     requires some_steps { 1 ≤ header.now.limit }
     requires few_steps { header.now.limit ≤ MAX_STEPS }
     requires few_points { length header.now.points ≤ MAX_POINTS }

@@ -24,5 +24,5 @@ mod texts;
 pub use certifying::certify;
 pub use directed::run_directed;
 pub use directive_run::{Certified, CertifyRow, CertifyRows};
-pub use finding::{Found, find};
+pub use finding::{Finding, find};
 pub use texts::ShownCertificate;

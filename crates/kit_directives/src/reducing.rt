@@ -1,7 +1,7 @@
 // Moments without those that a verdict doesn't need.
 ghost use Rattle.std.specs.Prelude.{◌≡◌, ◌≤◌, ◌<◌, ◌^◌, length, remove, IfOk, IfSome, None};
 ghost use Rattle.kit_directives.specs.Directed.{LeadsTo};
-ghost use Rattle.kit_directives.specs.Found.{HasOther, Leaves, IsReduced};
+ghost use Rattle.kit_directives.specs.Finding.{HasOther, Leaves, IsReduced};
 ghost use Rattle.pct_ask.specs.declared.limits.TheConstants.{MAX_POINTS, MAX_STEPS};
 
 use crate::directed::run_directed;
@@ -14,7 +14,7 @@ use std::thread::Threads;
 
 /// Moments, and the number of steps of their run.
 #[derive(Debug, Drop)]
-pub struct Short {
+pub struct ShortMoments {
     pub moments: MomentList,
     pub steps: u32,
 }
@@ -68,7 +68,7 @@ fn leave_out<R: Threads + Wait + Sync, T: Program + Sync>(
     limit: u32,
     verdict: &Verdict,
     program: &T,
-) -> Result<Option<Short>, RunError>
+) -> Result<Option<ShortMoments>, RunError>
     requires some_steps { 1 ≤ limit }
     requires few_steps { limit ≤ MAX_STEPS }
     requires few_moments { length moments.now ≤ MAX_POINTS }
@@ -91,7 +91,7 @@ fn leave_out<R: Threads + Wait + Sync, T: Program + Sync>(
             program,
         )?;
         if let Some(steps) = led {
-            return Ok(Some(Short {
+            return Ok(Some(ShortMoments {
                 moments: rest,
                 steps,
             }));
@@ -107,11 +107,11 @@ pub fn reduce<R: Threads + Wait + Sync, T: Program + Sync>(
     alloc: Global,
     deal: &Deal,
     order: &[u32],
-    whole: Short,
+    whole: ShortMoments,
     limit: u32,
     verdict: &Verdict,
     program: &T,
-) -> Result<Short, RunError>
+) -> Result<ShortMoments, RunError>
     requires some_steps { 1 ≤ limit }
     requires few_steps { limit ≤ MAX_STEPS }
     requires few_moments { length whole.moments ≤ MAX_POINTS }

@@ -12,7 +12,7 @@ use kit_runs::RunError;
 use pct_ask::Verdict;
 use ports::gets_stuck;
 use std::io;
-use tally::Tally;
+use tally::SeedTally;
 use trial::run_seed;
 use worker::Worker;
 
@@ -37,9 +37,9 @@ fn is_found(found: &Result<bool, RunError>) -> bool {
 
 fn main(rt: HostRuntime) -> io::Result<()> {
     let alloc = rt.alloc();
-    let mut faulty = Tally::default();
-    let mut mended = Tally::default();
-    let mut by_ports = Tally::default();
+    let mut faulty = SeedTally::default();
+    let mut mended = SeedTally::default();
+    let mut by_ports = SeedTally::default();
     for seed in 0..SEEDS {
         let one = Box::new(alloc, Worker::taker(0, 0))?;
         let other = Box::new(alloc, Worker::taker(0, 0))?;

@@ -3,13 +3,13 @@ use std::fmt::{Display, Formatter, Write};
 
 /// The seeds at which something was found.
 #[derive(Clone, Copy, Debug, Default)]
-pub struct Tally {
+pub struct SeedTally {
     tried: u32,
     found: u32,
     first: Option<u64>,
 }
 
-impl Tally {
+impl SeedTally {
     pub fn note(&mut self, seed: u64, found: bool) {
         self.tried = self.tried.saturating_add(1);
         if found {
@@ -19,7 +19,7 @@ impl Tally {
     }
 }
 
-impl Display for Tally {
+impl Display for SeedTally {
     fn fmt<W: Write>(&self, f: &mut Formatter<W>) -> fmt::Result {
         match self.first {
             Some(seed) => write!(

@@ -20,7 +20,7 @@ pub struct ShownThread<'a> {
 
 /// A thread and its line.
 #[derive(Clone, Copy)]
-struct Place<'a> {
+struct ShownPlace<'a> {
     names: &'a Names,
     thread: u32,
     line: u32,
@@ -66,7 +66,7 @@ impl Display for ShownThread<'_> {
     }
 }
 
-impl Display for Place<'_> {
+impl Display for ShownPlace<'_> {
     fn fmt<W: Write>(&self, f: &mut Formatter<W>) -> fmt::Result {
         let line = self.line;
         let thread = ShownThread {
@@ -82,7 +82,7 @@ impl Display for Places<'_> {
         let names = self.names;
         for thread in 0..MAX_THREADS as u32 {
             if let Some(line) = self.blocked.get(thread) {
-                let place = Place {
+                let place = ShownPlace {
                     names,
                     thread,
                     line,
@@ -95,8 +95,8 @@ impl Display for Places<'_> {
 }
 
 impl<'a> ShownVerdict<'a> {
-    fn place(&self, thread: u32, line: u32) -> Place<'a> {
-        Place {
+    fn place(&self, thread: u32, line: u32) -> ShownPlace<'a> {
+        ShownPlace {
             names: self.names,
             thread,
             line,

@@ -12,8 +12,8 @@ use Rattle.pct_ask.specs.Lines.{lines_of, onto_first}
 use Rattle.pct_ask.specs.Tokens.{Token, tokens_of}
 use Rattle.script_tree.specs.Lines.{is_blank_line, just_thread, thread_in, threads_begun}
 use Rattle.script_tree.specs.Faults.{are_blank}
-use Rattle.script_parse.specs.declared.ahead.Ahead.{Ahead}
-use Rattle.script_parse.specs.Ahead.{HasPlaces, HasSeen}
+use Rattle.script_parse.specs.declared.ahead.Lookahead.{Lookahead}
+use Rattle.script_parse.specs.Lookahead.{HasPlaces, HasSeen}
 
 pub no_thread_more : (texts : List (List ℕ)) (line : List ℕ) → thread_in line ≡ None
     → threads_begun (texts ++ line ∷ []) ≡ threads_begun texts
@@ -50,7 +50,7 @@ blank_push texts line =
 -- ---- what is known, with one line more
 
 -- what is known before its places are noted
-abbrev counted : Ahead → Bool → Ahead
+abbrev counted : Lookahead → Bool → Lookahead
 counted old blank = record {
   places = old.places;
   threads = old.threads;
@@ -59,7 +59,7 @@ counted old blank = record {
 }
 
 -- a line that begins no thread
-pub plain_seen : (old : Ahead) (blank : Bool) (line : List ℕ) → thread_in line ≡ None
+pub plain_seen : (old : Lookahead) (blank : Bool) (line : List ℕ) → thread_in line ≡ None
     → blank ≡ (old.blank && is_blank_line line) → (texts : List (List ℕ)) → HasSeen old texts
     → HasSeen (counted old blank) (texts ++ line ∷ [])
 plain_seen old blank line none says texts has = record {
@@ -71,7 +71,8 @@ plain_seen old blank line none says texts has = record {
 }
 
 -- a line that begins a thread, which is noted
-pub thread_seen : (old new : Ahead) (blank : Bool) (line name : List ℕ) → thread_in line ≡ Some name
+pub thread_seen : (old new : Lookahead) (blank : Bool) (line name : List ℕ)
+    → thread_in line ≡ Some name
     → blank ≡ (old.blank && is_blank_line line)
     → ((names : List (List ℕ)) → HasPlaces (counted old blank) names
     → HasPlaces new (names ++ name ∷ [])) → new.lines ≡ old.lines + 1 → new.blank ≡ blank

@@ -20,7 +20,7 @@ use Rattle.script_tree.specs.Expressions.{IsSpelled, number, register, enclosed,
 use Rattle.script_tree.specs.Expressions.{stronger, signs_of, strength, left_level}
 use Rattle.pct_ask.specs.Words.{register_word}
 use Rattle.pct_ask.specs.Words.{register_in}
-use Rattle.script_parse.specs.Machine.{Frame, Paren, Not, Minus, Two, OpenExpression}
+use Rattle.script_parse.specs.Machine.{OpenPart, Paren, Not, Minus, Two, OpenExpression}
 use Rattle.script_parse.specs.Machine.{open_expression, operator_in, reduced_value, chains}
 use Rattle.script_parse.specs.Machine.{with_operator, with_bracket, with_value_token, joined_by}
 use Rattle.script_parse.specs.Machine.{behind, token_step, token_step_at, whole, finished_at}
@@ -50,7 +50,7 @@ down low high tokens tree h r =
 
 -- ---- the tokens of what waits
 
-abbrev Stands : List Frame → List Token → Type 0
+abbrev Stands : List OpenPart → List Token → Type 0
 Stands [] front = front ≡ []
 Stands (Paren ∷ frames) front =
     (before : List Token) × Stands frames before × (front ≡ before ++ Symbol (codes "(") ∷ [])
@@ -64,7 +64,8 @@ Stands (Two op left ∷ frames) front =
     × (front ≡ before ++ (lefts ++ Symbol (signs_of op) ∷ []))
 
 -- what waits, and behind it a value
-record HasValue (level : ℕ) (frames : List Frame) (value : Expression) (front : List Token) : Type
+record HasValue (level : ℕ) (frames : List OpenPart) (value : Expression)
+    (front : List Token) : Type
     0 where
   before : List Token
   tokens : List Token
@@ -73,7 +74,7 @@ record HasValue (level : ℕ) (frames : List Frame) (value : Expression) (front 
   read : IsSpelled level tokens value
   front_is : front ≡ before ++ tokens
 
-abbrev IsPartAt : List Frame → Option Expression → List Token → Type 0
+abbrev IsPartAt : List OpenPart → Option Expression → List Token → Type 0
 IsPartAt frames None front = Stands frames front
 IsPartAt frames (Some value) front = HasValue 6 frames value front
 
@@ -81,27 +82,27 @@ IsPartAt frames (Some value) front = HasValue 6 frames value front
 abbrev IsPart : OpenExpression → List Token → Type 0
 IsPart p front = IsPartAt p.frames p.value front
 
-five_accepted : (frames : List Frame) → Accepts 5 frames
+five_accepted : (frames : List OpenPart) → Accepts 5 frames
 five_accepted [] = tt
 five_accepted (Paren ∷ frames) = tt
 five_accepted (Not ∷ frames) = omega arith
 five_accepted (Minus ∷ frames) = omega arith
 five_accepted (Two op left ∷ frames) = strength_few op
 
-six_accepted : (frames : List Frame) → Accepts 6 frames
+six_accepted : (frames : List OpenPart) → Accepts 6 frames
 six_accepted frames = accepts_more 5 frames 6 (omega arith) (five_accepted frames)
 
 -- ---- taking parts
 
 -- nothing waits there that takes a part of this level
-abbrev Waits : ℕ → List Frame → Type 0
+abbrev Waits : ℕ → List OpenPart → Type 0
 Waits level [] = Unit {0}
 Waits level (Paren ∷ frames) = Unit {0}
 Waits level (Not ∷ frames) = ⊥
 Waits level (Minus ∷ frames) = ⊥
 Waits level (Two op left ∷ frames) = strength op < level
 
-record IsReduced (low : ℕ) (done : List Frame × Expression) (front : List Token) : Type 0 where
+record IsReduced (low : ℕ) (done : List OpenPart × Expression) (front : List Token) : Type 0 where
   level : ℕ
   above : low ≤ level
   has : HasValue level done.0 done.1 front
@@ -111,7 +112,7 @@ regroup : (before : List Token) (sign : Token) (tokens : List Token)
     → (before ++ sign ∷ []) ++ tokens ≡ before ++ sign ∷ tokens
 regroup before sign tokens = append_assoc before (sign ∷ []) tokens
 
-minus_taken : (level : ℕ) (frames : List Frame) (value : Expression) (front : List Token)
+minus_taken : (level : ℕ) (frames : List OpenPart) (value : Expression) (front : List Token)
     → HasValue level (Minus ∷ frames) value front → HasValue 5 frames (trees.Minus value) front
 minus_taken level frames value front h = record {
   before = h.stands.0;
@@ -124,7 +125,7 @@ minus_taken level frames value front h = record {
       ∙ regroup h.stands.0 (Symbol (codes "-")) h.tokens;
 }
 
-not_taken : (level : ℕ) (frames : List Frame) (value : Expression) (front : List Token)
+not_taken : (level : ℕ) (frames : List OpenPart) (value : Expression) (front : List Token)
     → HasValue level (Not ∷ frames) value front → HasValue 5 frames (trees.Not value) front
 not_taken level frames value front h = record {
   before = h.stands.0;
@@ -137,7 +138,7 @@ not_taken level frames value front h = record {
       ∙ regroup h.stands.0 (Symbol (codes "!")) h.tokens;
 }
 
-two_taken : (level : ℕ) (op : Op) (left : Expression) (frames : List Frame) (value : Expression)
+two_taken : (level : ℕ) (op : Op) (left : Expression) (frames : List OpenPart) (value : Expression)
     (front : List Token) → HasValue level (Two op left ∷ frames) value front
     → HasValue (strength op) frames (trees.Two op left value) front
 two_taken level op left frames value front h = record {
@@ -155,7 +156,8 @@ two_taken level op left frames value front h = record {
       (regroup h.stands.1 (Symbol (signs_of op)) h.tokens);
 }
 
-is_reduced : (low : ℕ) (frames : List Frame) (value : Expression) (level : ℕ) (front : List Token)
+is_reduced : (low : ℕ) (frames : List OpenPart) (value : Expression) (level : ℕ)
+    (front : List Token)
     → low ≤ 5 → low ≤ level → HasValue level frames value front
     → IsReduced low (reduced_value low frames value) front
 is_reduced low [] value level front few above h = record {
@@ -214,7 +216,7 @@ operator_says signs op e =
     one_operator signs ops.Over _ op e (λ e.
     one_operator signs ops.Rest _ op e (λ e. absurd cc)))))))))))))
 
-value_next : (frames : List Frame) (front : List Token) (token : Token) (tree : Expression)
+value_next : (frames : List OpenPart) (front : List Token) (token : Token) (tree : Expression)
     → Stands frames front → IsSpelled 6 (token ∷ []) tree
     → HasValue 6 frames tree (front ++ token ∷ [])
 value_next frames front token tree h r = record {
@@ -232,7 +234,7 @@ register_says word reg e =
     let found = position-Some (bytes_eq word) registers reg [] e in
     (found.0, sym ((bytes_eq-Decides word (slice_index_or registers reg [])).0 found.1))
 
-weak : (op : Op) (frames : List Frame) → chains op frames ≡ false → Waits (left_level op) frames
+weak : (op : Op) (frames : List OpenPart) → chains op frames ≡ false → Waits (left_level op) frames
     → Accepts (strength op) frames
 weak op [] c w = tt
 weak op (Paren ∷ frames) c w = tt
@@ -241,7 +243,7 @@ weak op (Minus ∷ frames) c w = absurd w
 weak op (Two other left ∷ frames) c w = let few : left_level op ≤ strength op + 1 = left_few op in
     grind (arith, nat_tests)
 
-joined_next : (op : Op) (frames : List Frame) (value : Expression) (p : OpenExpression)
+joined_next : (op : Op) (frames : List OpenPart) (value : Expression) (p : OpenExpression)
     (front : List Token) → with_operator op (frames, value) ≡ Some p
     → IsReduced (left_level op) (frames, value) front
     → IsPart p (front ++ Symbol (signs_of op) ∷ [])
@@ -260,7 +262,8 @@ joined_next op frames value p front e r =
           ∙ append_assoc h.before h.tokens (sign ∷ []),
     )
 
-closed_next : (frames : List Frame) (value : Expression) (p : OpenExpression) (front : List Token)
+closed_next : (frames : List OpenPart) (value : Expression) (p : OpenExpression)
+    (front : List Token)
     → with_bracket frames value ≡ Some p → IsReduced 0 (frames, value) front
     → IsPart p (front ++ Symbol (codes ")") ∷ [])
 closed_next [] value p front e r = absurd cc
@@ -285,7 +288,7 @@ closed_next (Paren ∷ frames) value p front e r =
           ∙ regroup h.stands.0 begin h.tokens) ∙ append_assoc h.stands.0 (begin ∷ h.tokens) end;
     })
 
-begun_symbol : (frames : List Frame) (signs : List ℕ) (p : OpenExpression) (front : List Token)
+begun_symbol : (frames : List OpenPart) (signs : List ℕ) (p : OpenExpression) (front : List Token)
     → Stands frames front → with_value_token frames (Symbol signs) ≡ Some p
     → IsPart p (front ++ Symbol signs ∷ [])
 begun_symbol frames signs p front h e =
@@ -317,7 +320,7 @@ begun_symbol frames signs p front h e =
           ]
     ]
 
-begun_next : (frames : List Frame) (token : Token) (p : OpenExpression) (front : List Token)
+begun_next : (frames : List OpenPart) (token : Token) (p : OpenExpression) (front : List Token)
     → Stands frames front → with_value_token frames token ≡ Some p → IsPart p (front ++ token ∷ [])
 begun_next frames (Symbol signs) p front h e = begun_symbol frames signs p front h e
 begun_next frames (Number digits) p front h e =
@@ -334,7 +337,7 @@ begun_next frames (Word word) p front h e =
     subst (λ (q : OpenExpression). IsPart q (front ++ Word word ∷ [])) m.2
     (value_next frames front (Word word) (trees.Reg m.0) h spelled)
 
-joined_by_next : (found : Option Op) (signs : List ℕ) (frames : List Frame) (value : Expression)
+joined_by_next : (found : Option Op) (signs : List ℕ) (frames : List OpenPart) (value : Expression)
     (p : OpenExpression) (front : List Token) → operator_in signs ≡ found
     → joined_by found frames value ≡ Some p → HasValue 6 frames value front
     → IsPart p (front ++ Symbol signs ∷ [])
@@ -346,7 +349,7 @@ joined_by_next (Some op) signs frames value p front f e h =
     (joined_next op done.0 done.1 p front e
     (is_reduced (left_level op) frames value 6 front few (omega arith) h))
 
-behind_next : (frames : List Frame) (value : Expression) (token : Token) (p : OpenExpression)
+behind_next : (frames : List OpenPart) (value : Expression) (token : Token) (p : OpenExpression)
     (front : List Token) → HasValue 6 frames value front → behind frames value token ≡ Some p
     → IsPart p (front ++ token ∷ [])
 behind_next frames value (Number digits) p front h e = absurd cc
@@ -360,13 +363,14 @@ behind_next frames value (Symbol signs) p front h e =
       | inr c ↦ joined_by_next (operator_in signs) signs frames value p front refl c.1 h
     ]
 
-step_next : (frames : List Frame) (value : Option Expression) (token : Token) (p : OpenExpression)
+step_next : (frames : List OpenPart) (value : Option Expression) (token : Token)
+    (p : OpenExpression)
     (front : List Token) → IsPartAt frames value front
     → token_step_at frames value token ≡ Some p → IsPart p (front ++ token ∷ [])
 step_next frames None token p front h e = begun_next frames token p front h e
 step_next frames (Some value) token p front h e = behind_next frames value token p front h e
 
-whole_sound : (frames : List Frame) (value : Expression) (tree : Expression) (front : List Token)
+whole_sound : (frames : List OpenPart) (value : Expression) (tree : Expression) (front : List Token)
     → whole (frames, value) ≡ Some tree → IsReduced 0 (frames, value) front → IsSpelled 0 front tree
 whole_sound (frame ∷ frames) value tree front e r = absurd cc
 whole_sound [] value tree front e r =
@@ -376,7 +380,7 @@ whole_sound [] value tree front e r =
     (subst (λ (t : Expression). IsSpelled 0 h.tokens t) (some_is value tree e)
     (down 0 r.level h.tokens value (omega arith) h.read))
 
-finished_sound : (frames : List Frame) (value : Option Expression) (tree : Expression)
+finished_sound : (frames : List OpenPart) (value : Option Expression) (tree : Expression)
     (front : List Token) → IsPartAt frames value front → finished_at frames value ≡ Some tree
     → IsSpelled 0 front tree
 finished_sound frames None tree front h e = absurd cc

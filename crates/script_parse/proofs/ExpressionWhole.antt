@@ -13,7 +13,7 @@ use Rattle.script_tree.specs.Trees as trees
 use Rattle.script_tree.specs.Expressions.{IsSpelled, number, register, enclosed, minus, not, two}
 use Rattle.script_tree.specs.Expressions.{stronger, signs_of, strength, left_level}
 use Rattle.pct_ask.specs.Words.{register_word}
-use Rattle.script_parse.specs.Machine.{Frame, Paren, Not, Minus, Two, open_expression}
+use Rattle.script_parse.specs.Machine.{OpenPart, Paren, Not, Minus, Two, open_expression}
 use Rattle.script_parse.specs.Machine.{reduced_value, chains, expression_from, expression_in}
 use Rattle.pct_ask.specs.NameLists.{AreDistinct}
 use Rattle.pct_ask.specs.Words.{register_in}
@@ -21,7 +21,7 @@ use Rattle.script_parse.proofs.Fresh.{place_at}
 use Rattle.script_parse.proofs.Operators.{operator_at, no_parenthesis, strength_few, left_above}
 
 -- what waits there takes a part of this level
-abbrev pub Accepts : ℕ → List Frame → Type 0
+abbrev pub Accepts : ℕ → List OpenPart → Type 0
 Accepts level [] = Unit {0}
 Accepts level (Paren ∷ frames) = Unit {0}
 Accepts level (Not ∷ frames) = 5 ≤ level
@@ -35,7 +35,7 @@ Follows level (Symbol signs ∷ tokens) =
     (signs ≡ codes ")") ⊎ ((op : Op) × (signs ≡ signs_of op) × (left_level op ≤ level))
 Follows level (token ∷ tokens) = ⊥
 
-pub accepts_more : (level : ℕ) (frames : List Frame) (more : ℕ) → level ≤ more
+pub accepts_more : (level : ℕ) (frames : List OpenPart) (more : ℕ) → level ≤ more
     → Accepts level frames → Accepts more frames
 accepts_more level [] more h a = tt
 accepts_more level (Paren ∷ frames) more h a = tt
@@ -56,11 +56,11 @@ follows_more level more (Word word ∷ tokens) h f = f
 
 -- ---- what waits takes its part, where that is as strong as what follows asks
 
-abbrev goes : List Frame → Expression → List Token → Option Expression
+abbrev goes : List OpenPart → Expression → List Token → Option Expression
 goes frames value tokens =
     expression_from (open_expression frames (Some value)) tokens
 
-same_by_symbol : (frames others : List Frame) (value other : Expression) (signs : List ℕ)
+same_by_symbol : (frames others : List OpenPart) (value other : Expression) (signs : List ℕ)
     (tokens : List Token) (level : ℕ)
     → ((l : ℕ) → l ≤ level → reduced_value l frames value ≡ reduced_value l others other)
     → Follows level (Symbol signs ∷ tokens)
@@ -71,7 +71,7 @@ same_by_symbol frames others value other signs tokens level same (inr f) =
     rw (f.1, no_parenthesis f.0, operator_at f.0, same (left_level f.0) f.2) refl
 
 -- two stacks with their values that are the same once they are reduced go on alike
-same_goes : (frames others : List Frame) (value other : Expression) (tokens : List Token)
+same_goes : (frames others : List OpenPart) (value other : Expression) (tokens : List Token)
     (level : ℕ)
     → ((l : ℕ) → l ≤ level → reduced_value l frames value ≡ reduced_value l others other)
     → Follows level tokens → goes frames value tokens ≡ goes others other tokens
@@ -81,7 +81,7 @@ same_goes frames others value other (Symbol signs ∷ tokens) level same f =
 same_goes frames others value other (Number digits ∷ tokens) level same f = absurd f
 same_goes frames others value other (Word word ∷ tokens) level same f = absurd f
 
-two_goes : (op : Op) (left value : Expression) (frames : List Frame) (tokens : List Token)
+two_goes : (op : Op) (left value : Expression) (frames : List OpenPart) (tokens : List Token)
     → Follows (strength op) tokens → goes (Two op left ∷ frames) value tokens
     ≡ goes frames (trees.Two op left value) tokens
 two_goes op left value frames tokens f =
@@ -91,7 +91,7 @@ two_goes op left value frames tokens f =
 -- ---- the whole expression
 
 -- nothing that waits takes the left part of an operator that it waits for
-kept : (op : Op) (value : Expression) (frames : List Frame) → Accepts (strength op) frames
+kept : (op : Op) (value : Expression) (frames : List OpenPart) → Accepts (strength op) frames
     → reduced_value (left_level op) frames value ≡ (frames, value)
 kept op value [] a = refl
 kept op value (Paren ∷ frames) a = refl
@@ -101,7 +101,7 @@ kept op value (Two other left ∷ frames) a =
     let weak : strength other < left_level op = omega (arith, left_above op) in
     rw (lt-leb (left_level op) (strength other) weak) refl
 
-unchained : (op : Op) (frames : List Frame) → Accepts (strength op) frames
+unchained : (op : Op) (frames : List OpenPart) → Accepts (strength op) frames
     → chains op frames ≡ false
 unchained op [] a = refl
 unchained op (Paren ∷ frames) a = refl
@@ -116,7 +116,7 @@ pub register_read : (reg : ℕ) → reg < 16 → register_in (register_word reg)
 register_read reg h = place_at registers reg distinct_registers h
 
 -- an operator behind its left part waits for its right part
-joins : (op : Op) (value : Expression) (frames : List Frame) (tokens : List Token)
+joins : (op : Op) (value : Expression) (frames : List OpenPart) (tokens : List Token)
     → Accepts (strength op) frames → expression_from (open_expression frames (Some value))
     (Symbol (signs_of op) ∷ tokens)
     ≡ expression_from (open_expression (Two op value ∷ frames) None) tokens
@@ -126,7 +126,7 @@ joins op value frames tokens a =
 -- tokens that spell a part are read as it, whatever may follow
 pub part_is_read : (level : ℕ) (tokens : List Token) (tree : Expression)
     → IsSpelled level tokens tree
-    → (frames : List Frame) → Accepts level frames → (rest : List Token) → Follows level rest
+    → (frames : List OpenPart) → Accepts level frames → (rest : List Token) → Follows level rest
     → expression_from (open_expression frames None) (tokens ++ rest)
     ≡ expression_from (open_expression frames (Some tree)) rest
 part_is_read _ _ _ (number digits) frames a rest f = refl

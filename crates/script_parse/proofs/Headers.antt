@@ -24,7 +24,8 @@ use Rattle.script_parse.proofs.Choices.{some, passed, same_bytes, clash}
 use Rattle.script_parse.proofs.FirstKinds.{Tells, first_in, in_order, IsFirst}
 use Rattle.script_parse.proofs.Standing.{Lines, Stands, count_push, names_push, reverse_push}
 use Rattle.script_parse.proofs.LineFaults.{tells_end_any, tells_thread_any}
-use Rattle.script_parse.proofs.LineSteps.{Step, fault_of, tests, never, always, bytes_at, bad_chain}
+use Rattle.script_parse.proofs.LineSteps.{AfterLine, fault_of, tests, never, always, bytes_at}
+use Rattle.script_parse.proofs.LineSteps.{bad_chain}
 use Rattle.script_parse.proofs.LineSteps.{some_none, cut_tokens, says_something, first_formless}
 
 -- lines that say nothing
@@ -133,7 +134,7 @@ tells_token (Some tokens) = never (λ n. some_none (sym n))
 module _ (find : Finder) (place : Place) (q : AreQuiet (tokens_before place))
     (above : are_blank place.before ≡ true)
     (some_says : are_blank (place.before ++ place.line ∷ place.after) ≡ false) where
-  abbrev pub top_step : Step
+  abbrev pub top_step : AfterLine
   top_step = line_taken None find (length place.before + 1) (is_empty place.after) place.line
 
   no_form : (cut : TokenForm) (meant : MeantForm) → ¬ HasForm place cut meant

@@ -30,10 +30,10 @@ use Rattle.script_parse.proofs.LineFaults.{tells_statement, tells_unknown, tells
 use Rattle.script_parse.proofs.LineFaults.{tells_stray, tells_many, tells_end, tells_thread}
 use Rattle.script_parse.proofs.LineFaults.{tells_end_any, tells_thread_any}
 
-abbrev pub Step : Type 0
-Step = Result (Option Part) ScriptFault
+abbrev pub AfterLine : Type 0
+AfterLine = Result (Option Part) ScriptFault
 
-abbrev pub fault_of : Step → Option ScriptFault
+abbrev pub fault_of : AfterLine → Option ScriptFault
 fault_of (Ok next) = None
 fault_of (Err kind) = Some kind
 
@@ -227,7 +227,7 @@ says_something line token tokens e = rw e refl
 -- a line of some form
 module _ (part : Part) (place : Place) (s : Stands part (tokens_before place))
     (below : are_blank place.before ≡ false) where
-  abbrev pub step : Step
+  abbrev pub step : AfterLine
   step =
       line_taken (Some part) (found part place s) (length place.before + 1)
       (is_empty place.after) place.line

@@ -16,7 +16,7 @@ use Rattle.std.proofs.lemmas.Map.Text.{btree_map_updates_str}
 use Rattle.std.proofs.lemmas.Slice.Eq.{bytes_eq-Decides}
 use denote.Ref.{Bor}
 use Rattle.pct_ask.specs.NameLists.{place_of}
-use Rattle.script_parse.specs.Ahead.{place_among, AreMapPlaces}
+use Rattle.script_parse.specs.Lookahead.{place_among, AreMapPlaces}
 
 -- where something stands among so many, or none
 abbrev standing : ℕ → ℕ → Option ℕ

@@ -29,7 +29,7 @@ use Rattle.script_parse.specs.Reading.{blank_fault, header_taken, part_after_hea
 use Rattle.script_parse.specs.Reading.{line_taken, tokens_taken, form_taken}
 use Rattle.script_parse.proofs.Choices.{some, some_is, passed}
 use Rattle.script_parse.proofs.FormSound.{form_says}
-use Rattle.script_parse.proofs.LineSteps.{Step, cut_tokens}
+use Rattle.script_parse.proofs.LineSteps.{AfterLine, cut_tokens}
 use Rattle.script_parse.proofs.TextFaults.{ok_is, err_ok, unless_ok, wrapped_ok, behind_tokens}
 use Rattle.script_parse.proofs.TextLines.{blank_more, says_more}
 use Rattle.script_parse.proofs.StatementFits.{finder, means_fits}
@@ -72,7 +72,7 @@ record IsPlain (number : ℕ) (line : List ℕ) : Type 0 where
   few : number ≤ 4096
 
 bytes_plain : (number : ℕ) (line : List ℕ) (u l t : Bool) → is_utf8 line ≡ not u
-    → nat_lt 256 (length line) ≡ l → nat_lt 4096 number ≡ t → (r : Step) (next : Option Part)
+    → nat_lt 256 (length line) ≡ l → nat_lt 4096 number ≡ t → (r : AfterLine) (next : Option Part)
     → unless (cond u (Some fault.NotUtf8)
     (cond l (Some fault.LineTooLong) (cond t (Some fault.TooManyLines) None))) r ≡ Ok next
     → IsPlain number line
@@ -88,7 +88,7 @@ not_not : (b : Bool) → b ≡ not (not b)
 not_not true = refl
 not_not false = refl
 
-line_plain : (number : ℕ) (line : List ℕ) (r : Step) (next : Option Part)
+line_plain : (number : ℕ) (line : List ℕ) (r : AfterLine) (next : Option Part)
     → unless (bytes_fault number line) r ≡ Ok next → IsPlain number line
 line_plain number line r next e =
     bytes_plain number line (not (is_utf8 line)) (nat_lt 256 (length line)) (nat_lt 4096 number)

@@ -28,7 +28,7 @@ use Rattle.script_parse.specs.Reading.{is_empty, line_taken, then_read, script_f
 use Rattle.script_parse.specs.Reading.{script_of, blank_text_fault}
 use Rattle.script_parse.proofs.Standing.{Lines, Stands, depth_is}
 use Rattle.script_parse.proofs.Agreeing.{leaves_open_same, few_ended, lacks_thread_same}
-use Rattle.script_parse.proofs.LineSteps.{Step}
+use Rattle.script_parse.proofs.LineSteps.{AfterLine}
 use Rattle.script_parse.proofs.Headers.{quiet_none}
 use Rattle.script_parse.proofs.TextFaults.{Found, TellsFault, StandsBefore, ok_is, err_ok}
 use Rattle.script_parse.proofs.TextFaults.{line_next, all_tell, finder_of, at_place, none_at_first}
@@ -67,7 +67,7 @@ reached (line ∷ rest) lines before state n script count e r s f =
     line ≡ Ok next) count t))
     (line_next state (finder (threads_begun lines)) n (is_empty rest) before line next s t) g)
   where
-    by_step : (result : Step) → line_taken state (finder (threads_begun lines)) n
+    by_step : (result : AfterLine) → line_taken state (finder (threads_begun lines)) n
         (is_empty rest) line ≡ result → then_read n result
         (λ next. script_from (finder (threads_begun lines)) next (n + 1) rest) ≡ Ok script
         → ((next : Option Part) → line_taken state (finder (threads_begun lines)) n

@@ -21,7 +21,8 @@ use Rattle.script_parse.proofs.FormSound.{form_says}
 use Rattle.script_parse.proofs.FirstKinds.{IsFirstKind, IsFirst}
 use Rattle.script_parse.proofs.Standing.{Stands, blank_stands}
 use Rattle.script_parse.proofs.Agreeing.{taken_stands}
-use Rattle.script_parse.proofs.LineSteps.{Step, fault_of, cut_tokens, says_something, below_step}
+use Rattle.script_parse.proofs.LineSteps.{AfterLine, fault_of, cut_tokens, says_something}
+use Rattle.script_parse.proofs.LineSteps.{below_step}
 use Rattle.script_parse.proofs.Headers.{AreQuiet, quiet_blank, begun_stands, above_step}
 use Rattle.script_parse.proofs.Choices.{clash}
 use Rattle.script_parse.proofs.FormFaults.{no_fault_parts}
@@ -37,7 +38,7 @@ ok_is e = cc
 pub err_ok : {A E P : Type 0} {x : E} {y : A} → ◌≡◌ {A = Result A E} (Err x) (Ok y) → P
 err_ok e = absurd cc
 
-pub unless_ok : (o : Option ScriptFault) (r : Step) (next : Option Part) → unless o r ≡ Ok next
+pub unless_ok : (o : Option ScriptFault) (r : AfterLine) (next : Option Part) → unless o r ≡ Ok next
     → r ≡ Ok next
 unless_ok None r next e = e
 unless_ok (Some kind) r next e = err_ok e
@@ -233,7 +234,7 @@ TellsFault (Err found) lines =
     (place : Place) × (lines ≡ place.before ++ place.line ∷ place.after)
     × (found.0 ≡ length place.before + 1) × HasNoFaultBefore place × IsFirstKind place found.1
 
-step_tells : (lines before rest : List (List ℕ)) (line : List ℕ) (result : Step)
+step_tells : (lines before rest : List (List ℕ)) (line : List ℕ) (result : AfterLine)
     (more : Option Part → Found) → lines ≡ before ++ line ∷ rest → NoneBefore before (line ∷ rest)
     → IsFirst (fault_of result) (at_place before line rest)
     → ((next : Option Part) → result ≡ Ok next → NoneBefore (before ++ line ∷ []) rest

@@ -5,8 +5,8 @@ use Rattle.std.specs.Option.{option_map}
 use Rattle.pct_ask.specs.Characters.{is_blank}
 use Rattle.pct_ask.specs.Tokens.{piece_before, token_pieces, tokens_of}
 use Rattle.script_parse.specs.Seen.{seen}
-use Rattle.script_parse.specs.declared.token.Next.{Next}
-use Rattle.script_parse.specs.declared.token.Next.TheVariants as next
+use Rattle.script_parse.specs.declared.token.NextToken.{NextToken}
+use Rattle.script_parse.specs.declared.token.NextToken.TheVariants as next
 
 -- the text begins with no blank
 abbrev pub BeginsPlain : List ℕ → Type 0
@@ -20,7 +20,7 @@ BeginsWithPiece (suc n) text =
     token_pieces text ≡ piece_before (take (suc n) text) (token_pieces (drop (suc n) text))
 
 -- what stands next in a line
-abbrev pub IsNext : Next → List ℕ → Type 0
+abbrev pub IsNext : NextToken → List ℕ → Type 0
 IsNext next.End line = tokens_of line ≡ Some []
 IsNext next.Bad line = tokens_of line ≡ None
 IsNext (next.Token token others) line =

@@ -9,7 +9,7 @@ pub mod SeenForms
 pub mod Part
 pub mod Reading
 pub mod Lawful
-pub mod Ahead
+pub mod Lookahead
 pub mod SeenParts
 pub mod States
 pub mod Answers

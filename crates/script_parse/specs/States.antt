@@ -9,16 +9,16 @@ use Rattle.script_parse.specs.Part.{Part}
 use Rattle.script_parse.specs.SeenParts.{seen_reader}
 use Rattle.script_parse.specs.declared.fault.ScriptError.{ScriptError}
 use Rattle.script_parse.specs.declared.fault.ScriptError.TheVariants as errors
-use Rattle.script_parse.specs.declared.parsing.State.{State}
-use Rattle.script_parse.specs.declared.parsing.State.TheVariants as states
-use Rattle.script_parse.specs.declared.parsing.Step.{Step}
-use Rattle.script_parse.specs.declared.parsing.Step.TheVariants as steps
+use Rattle.script_parse.specs.declared.parsing.Progress.{Progress}
+use Rattle.script_parse.specs.declared.parsing.Progress.TheVariants as states
+use Rattle.script_parse.specs.declared.parsing.AfterLine.{AfterLine}
+use Rattle.script_parse.specs.declared.parsing.AfterLine.TheVariants as steps
 
-abbrev pub seen_state : State → Option Part
+abbrev pub seen_state : Progress → Option Part
 seen_state states.Above = None
 seen_state (states.Below reader) = Some (seen_reader reader)
 
-abbrev pub seen_step : Step → Result (Option Part) ScriptFault
+abbrev pub seen_step : AfterLine → Result (Option Part) ScriptFault
 seen_step (steps.Next state) = Ok (seen_state state)
 seen_step (steps.Bad kind) = Err kind
 

@@ -8,7 +8,7 @@ ghost use Rattle.pct_ask.specs.Lines.{lines_of};
 ghost use Rattle.pct_ask.specs.Tokens.{tokens_of};
 ghost use Rattle.script_tree.specs.Lines.{just_thread, thread_in};
 ghost use Rattle.script_parse.specs.Seen.{all_seen};
-ghost use Rattle.script_parse.specs.Ahead.{AreMapPlaces, HasPlaces, HasSeen, place_ahead};
+ghost use Rattle.script_parse.specs.Lookahead.{AreMapPlaces, HasPlaces, HasSeen, place_ahead};
 
 use crate::expression::says;
 use crate::token::{Token, tokens};
@@ -19,7 +19,7 @@ use std::collections::BTreeMap;
 /// The threads that lines of the text begin, sound or not, how many lines it has, and whether all
 /// of them are blank.
 #[derive(Drop)]
-pub struct Ahead<'a> {
+pub struct Lookahead<'a> {
     places: BTreeMap<&'a [u8], u32>,
     threads: u32,
     lines: u32,
@@ -78,11 +78,11 @@ fn note_place<'a>(
     Ok(())
 }
 
-impl<'a> Ahead<'a> {
+impl<'a> Lookahead<'a> {
     fn new(alloc: Global) -> Self
         ensures { HasSeen result [] }
     {
-        Ahead {
+        Lookahead {
             places: BTreeMap::new(alloc),
             threads: 0,
             lines: 0,
@@ -145,11 +145,11 @@ impl<'a> Ahead<'a> {
 }
 
 /// Looks at all lines of a text.
-pub fn look_ahead(alloc: Global, bytes: &[u8]) -> Result<Ahead<'_>, NoMemory>
+pub fn look_ahead(alloc: Global, bytes: &[u8]) -> Result<Lookahead<'_>, NoMemory>
     requires { length bytes.now ≤ 1048576 }
     ensures { IfOk result (λ ahead. HasSeen ahead (lines_of bytes.now)) }
 {
-    let mut ahead = Ahead::new(alloc);
+    let mut ahead = Lookahead::new(alloc);
     for line in split_lines(bytes) {
         ahead.see(alloc, line)?;
     }

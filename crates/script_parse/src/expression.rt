@@ -19,7 +19,7 @@ use std::alloc::{AllocError as NoMemory, Global};
 /// What waits for what follows: a parenthesis for its end, an operator for its part or its right
 /// part.
 #[derive(Drop)]
-pub enum Frame<'a> {
+pub enum OpenPart<'a> {
     Paren,
     Not,
     Minus,
@@ -30,7 +30,7 @@ pub enum Frame<'a> {
 /// last, if one was.
 #[derive(Drop)]
 pub struct Pending<'a> {
-    frames: Vec<Frame<'a>>,
+    frames: Vec<OpenPart<'a>>,
     value: Option<Spelling<'a>>,
 }
 
@@ -99,26 +99,30 @@ fn left_level(op: Op) -> u32
 }
 
 /// Whether what waits takes a part of this level.
-fn takes_part(frame: &Frame<'_>, level: u32) -> bool
+fn takes_part(frame: &OpenPart<'_>, level: u32) -> bool
     ensures { result ≡ machine.takes_part level (seen_frame frame.now) }
 {
     match frame {
-        Frame::Paren => false,
-        Frame::Not | Frame::Minus => true,
-        Frame::Two(op, _) => level <= strength(*op),
+        OpenPart::Paren => false,
+        OpenPart::Not | OpenPart::Minus => true,
+        OpenPart::Two(op, _) => level <= strength(*op),
     }
 }
 
 /// What waited, with its part.
-fn around<'a>(alloc: Global, frame: Frame<'a>, part: Spelling<'a>) -> Result<Spelling<'a>, NoMemory>
+fn around<'a>(
+    alloc: Global,
+    frame: OpenPart<'a>,
+    part: Spelling<'a>,
+) -> Result<Spelling<'a>, NoMemory>
     ensures { IfOk result (λ e.
         tree e ≡ machine.around (seen_frame frame.entry) (tree part.entry)) }
 {
     match frame {
-        Frame::Paren => Ok(part),
-        Frame::Not => Ok(Spelling::Not(Box::new(alloc, part)?)),
-        Frame::Minus => Ok(Spelling::Minus(Box::new(alloc, part)?)),
-        Frame::Two(op, left) => {
+        OpenPart::Paren => Ok(part),
+        OpenPart::Not => Ok(Spelling::Not(Box::new(alloc, part)?)),
+        OpenPart::Minus => Ok(Spelling::Minus(Box::new(alloc, part)?)),
+        OpenPart::Two(op, left) => {
             let left = Box::new(alloc, left)?;
             let right = Box::new(alloc, part)?;
             Ok(Spelling::Two(op, left, right))
@@ -126,7 +130,7 @@ fn around<'a>(alloc: Global, frame: Frame<'a>, part: Spelling<'a>) -> Result<Spe
     }
 }
 
-fn is_taken(frames: &[Frame<'_>], level: u32) -> bool
+fn is_taken(frames: &[OpenPart<'_>], level: u32) -> bool
     ensures { result ≡ machine.is_taken level (seen_frames frames.now) }
 {
     match frames.last() {
@@ -139,7 +143,7 @@ fn is_taken(frames: &[Frame<'_>], level: u32) -> bool
 fn reduce<'a>(
     alloc: Global,
     level: u32,
-    frames: &mut Vec<Frame<'a>>,
+    frames: &mut Vec<OpenPart<'a>>,
     value: Spelling<'a>,
 ) -> Result<Spelling<'a>, NoMemory>
     ensures { OnOk result
@@ -158,16 +162,16 @@ fn reduce<'a>(
 }
 
 /// Whether a comparison waits there for its right part, where another comparison begins.
-fn chains(op: Op, frames: &[Frame<'_>]) -> bool
+fn chains(op: Op, frames: &[OpenPart<'_>]) -> bool
     ensures { result ≡ machine.chains op (seen_frames frames.now) }
 {
     match frames.last() {
-        Some(Frame::Two(other, _)) => strength(*other) == strength(op),
+        Some(OpenPart::Two(other, _)) => strength(*other) == strength(op),
         _ => false,
     }
 }
 
-fn waiting<'a>(mut frames: Vec<Frame<'a>>, frame: Frame<'a>) -> Result<Pending<'a>, NoMemory>
+fn waiting<'a>(mut frames: Vec<OpenPart<'a>>, frame: OpenPart<'a>) -> Result<Pending<'a>, NoMemory>
     ensures { IfOk result (λ p.
         seen_pending p
         ≡ open_expression (seen_frame frame.entry ∷ seen_frames frames.entry.items) None) }
@@ -181,7 +185,7 @@ fn waiting<'a>(mut frames: Vec<Frame<'a>>, frame: Frame<'a>) -> Result<Pending<'
 
 /// A token where a value may begin.
 fn with_value_token<'a>(
-    frames: Vec<Frame<'a>>,
+    frames: Vec<OpenPart<'a>>,
     token: &Token<'a>,
 ) -> Result<Option<Pending<'a>>, NoMemory>
     ensures { IfOk result (λ next.
@@ -202,11 +206,11 @@ fn with_value_token<'a>(
         },
         Token::Symbol(signs) => {
             if says(signs, b"(") {
-                Ok(Some(waiting(frames, Frame::Paren)?))
+                Ok(Some(waiting(frames, OpenPart::Paren)?))
             } else if says(signs, b"-") {
-                Ok(Some(waiting(frames, Frame::Minus)?))
+                Ok(Some(waiting(frames, OpenPart::Minus)?))
             } else if says(signs, b"!") {
-                Ok(Some(waiting(frames, Frame::Not)?))
+                Ok(Some(waiting(frames, OpenPart::Not)?))
             } else {
                 Ok(None)
             }
@@ -217,7 +221,7 @@ fn with_value_token<'a>(
 /// An operator behind a value.
 fn joined<'a>(
     alloc: Global,
-    mut frames: Vec<Frame<'a>>,
+    mut frames: Vec<OpenPart<'a>>,
     value: Spelling<'a>,
     op: Op,
 ) -> Result<Option<Pending<'a>>, NoMemory>
@@ -229,13 +233,13 @@ fn joined<'a>(
     if chains(op, &frames) {
         return Ok(None);
     }
-    Ok(Some(waiting(frames, Frame::Two(op, left))?))
+    Ok(Some(waiting(frames, OpenPart::Two(op, left))?))
 }
 
 /// A `)` behind a value.
 fn closed<'a>(
     alloc: Global,
-    mut frames: Vec<Frame<'a>>,
+    mut frames: Vec<OpenPart<'a>>,
     value: Spelling<'a>,
 ) -> Result<Option<Pending<'a>>, NoMemory>
     ensures { IfOk result (λ next.
@@ -244,7 +248,7 @@ fn closed<'a>(
 {
     let value = reduce(alloc, 0, &mut frames, value)?;
     match frames.pop() {
-        Some(Frame::Paren) => Ok(Some(Pending {
+        Some(OpenPart::Paren) => Ok(Some(Pending {
             frames,
             value: Some(value),
         })),
@@ -255,7 +259,7 @@ fn closed<'a>(
 /// A token behind a value.
 fn behind<'a>(
     alloc: Global,
-    frames: Vec<Frame<'a>>,
+    frames: Vec<OpenPart<'a>>,
     value: Spelling<'a>,
     token: &Token<'a>,
 ) -> Result<Option<Pending<'a>>, NoMemory>

@@ -9,14 +9,14 @@ ghost use Rattle.script_tree.specs.ScriptSeen.{plain_script};
 ghost use Rattle.script_tree.specs.ScriptText.{ScriptText};
 ghost use Rattle.script_parse.specs.Answers.{EachHasOneAnswer, PrintIsRead};
 ghost use Rattle.script_parse.specs.Seen.{all_seen};
-ghost use Rattle.script_parse.specs.Ahead.{HasSeen, place_ahead};
+ghost use Rattle.script_parse.specs.Lookahead.{HasSeen, place_ahead};
 ghost use Rattle.script_parse.specs.SeenForms.{seen_form};
 ghost use Rattle.script_parse.specs.SeenParts.{seen_reader};
 ghost use Rattle.script_parse.specs.Saying.{form_in};
 ghost use Rattle.script_parse.specs.States.{seen_state, seen_step, Gives, TellsFault};
 ghost use Rattle.script_parse.specs.Reading as reading;
 
-use crate::ahead::{Ahead, is_text, look_ahead};
+use crate::ahead::{Lookahead, is_text, look_ahead};
 use crate::expression::says;
 use crate::fault::ScriptError;
 use crate::form::{Form, form_of};
@@ -31,7 +31,7 @@ pub const SCRIPT_BYTES: usize = 1_048_576;
 
 /// How far a text was read.
 #[derive(Drop)]
-enum State {
+enum Progress {
     /// To no header yet.
     Above,
     Below(Reader),
@@ -39,16 +39,16 @@ enum State {
 
 /// What a line leads to.
 #[derive(Drop)]
-enum Step {
-    Next(State),
+enum AfterLine {
+    Next(Progress),
     Bad(ScriptFault),
 }
 
 /// What a line with a fault leads to: what was read before it is given up.
-fn bad(_state: State, kind: ScriptFault) -> Step
+fn bad(_state: Progress, kind: ScriptFault) -> AfterLine
     ensures { seen_step result ≡ Err kind }
 {
-    Step::Bad(kind)
+    AfterLine::Bad(kind)
 }
 
 /// What may be wrong with a line by its bytes and its number alone.
@@ -81,28 +81,28 @@ fn version_of(tokens: &[Token<'_>]) -> Option<u32>
 }
 
 /// The header, or a blank line above it.
-fn read_header(alloc: Global, last: bool, tokens: &[Token<'_>]) -> Step
+fn read_header(alloc: Global, last: bool, tokens: &[Token<'_>]) -> AfterLine
     ensures { seen_step result ≡ reading.header_taken last (Some (all_seen tokens.now)) }
 {
     if tokens.is_empty() {
-        return Step::Next(State::Above);
+        return AfterLine::Next(Progress::Above);
     }
     match version_of(tokens) {
-        None => Step::Bad(ScriptFault::BadHeader),
-        Some(_) if last => Step::Bad(ScriptFault::NoThread),
-        Some(version) => Step::Next(State::Below(Reader::new(alloc, version))),
+        None => AfterLine::Bad(ScriptFault::BadHeader),
+        Some(_) if last => AfterLine::Bad(ScriptFault::NoThread),
+        Some(version) => AfterLine::Next(Progress::Below(Reader::new(alloc, version))),
     }
 }
 
 /// A blank line below the header.
-fn read_blank(reader: Reader, last: bool) -> Step
+fn read_blank(reader: Reader, last: bool) -> AfterLine
     ensures { seen_step result
         ≡ reading.some_part
         (reading.after_fault (reading.blank_fault (seen_reader reader) last) (seen_reader reader)) }
 {
     match reader.blank_fault(last) {
-        Some(kind) => bad(State::Below(reader), kind),
-        None => Step::Next(State::Below(reader)),
+        Some(kind) => bad(Progress::Below(reader), kind),
+        None => AfterLine::Next(Progress::Below(reader)),
     }
 }
 
@@ -110,12 +110,12 @@ fn read_blank(reader: Reader, last: bool) -> Step
 fn read_form(
     alloc: Global,
     reader: Reader,
-    ahead: &Ahead<'_>,
+    ahead: &Lookahead<'_>,
     number: u32,
     last: bool,
     tokens: &[Token<'_>],
     form: &Form<'_>,
-) -> Result<Step, NoMemory>
+) -> Result<AfterLine, NoMemory>
     requires { form_in reader.version (all_seen tokens.now) ≡ Some (seen_form form.now) }
     ensures { IfOk result (λ step.
         seen_step step
@@ -124,8 +124,8 @@ fn read_form(
         (Some (all_seen tokens.now)))) }
 {
     match reader.fault_of(ahead, last, tokens, form) {
-        Some(kind) => Ok(bad(State::Below(reader), kind)),
-        None => Ok(Step::Next(State::Below(reader.take(alloc, ahead, number, form)?))),
+        Some(kind) => Ok(bad(Progress::Below(reader), kind)),
+        None => Ok(AfterLine::Next(Progress::Below(reader.take(alloc, ahead, number, form)?))),
     }
 }
 
@@ -133,11 +133,11 @@ fn read_form(
 fn read_below(
     alloc: Global,
     reader: Reader,
-    ahead: &Ahead<'_>,
+    ahead: &Lookahead<'_>,
     number: u32,
     last: bool,
     tokens: &[Token<'_>],
-) -> Result<Step, NoMemory>
+) -> Result<AfterLine, NoMemory>
     ensures { IfOk result (λ step.
         seen_step step
         ≡ reading.some_part
@@ -148,7 +148,7 @@ fn read_below(
         return Ok(read_blank(reader, last));
     }
     match form_of(alloc, reader.version(), tokens)? {
-        None => Ok(bad(State::Below(reader), ScriptFault::BadStatement)),
+        None => Ok(bad(Progress::Below(reader), ScriptFault::BadStatement)),
         Some(form) => {
             let step = read_form(alloc, reader, ahead, number, last, tokens, &form);
             drop(form);
@@ -158,42 +158,42 @@ fn read_below(
 }
 
 /// The fault of a line that can't be cut into tokens.
-fn uncut_fault(state: &State) -> ScriptFault
+fn uncut_fault(state: &Progress) -> ScriptFault
     ensures { result ≡ reading.uncut_fault (seen_state state.now) }
 {
     match state {
-        State::Above => ScriptFault::BadHeader,
-        State::Below(_) => ScriptFault::BadToken,
+        Progress::Above => ScriptFault::BadHeader,
+        Progress::Below(_) => ScriptFault::BadToken,
     }
 }
 
 /// Takes the next line by its tokens.
 fn read_tokens(
     alloc: Global,
-    state: State,
-    ahead: &Ahead<'_>,
+    state: Progress,
+    ahead: &Lookahead<'_>,
     number: u32,
     tokens: &[Token<'_>],
-) -> Result<Step, NoMemory>
+) -> Result<AfterLine, NoMemory>
     ensures { IfOk result (λ step.
         seen_step step ≡ reading.line_said (seen_state state) (place_ahead ahead.now) number
         (number == ahead.now.lines) (Some (all_seen tokens.now))) }
 {
     let last = number == ahead.lines();
     match state {
-        State::Above => Ok(read_header(alloc, last, tokens)),
-        State::Below(reader) => read_below(alloc, reader, ahead, number, last, tokens),
+        Progress::Above => Ok(read_header(alloc, last, tokens)),
+        Progress::Below(reader) => read_below(alloc, reader, ahead, number, last, tokens),
     }
 }
 
 /// Takes the next line.
 fn read_line(
     alloc: Global,
-    state: State,
-    ahead: &Ahead<'_>,
+    state: Progress,
+    ahead: &Lookahead<'_>,
     number: u32,
     line: &[u8],
-) -> Result<Step, NoMemory>
+) -> Result<AfterLine, NoMemory>
     ensures { IfOk result (λ step.
         seen_step step ≡ reading.line_taken (seen_state state) (place_ahead ahead.now) number
         (number == ahead.now.lines) line.now) }
@@ -210,27 +210,27 @@ fn read_line(
     }
 }
 
-fn read_lines(alloc: Global, ahead: &Ahead<'_>, bytes: &[u8]) -> Result<Script, ScriptError>
+fn read_lines(alloc: Global, ahead: &Lookahead<'_>, bytes: &[u8]) -> Result<Script, ScriptError>
     requires seen { HasSeen ahead.now (lines_of bytes.now) }
     requires small { length bytes.now ≤ 1048576 }
     requires says { are_blank (lines_of bytes.now) ≡ false }
     ensures { Gives result (reading.read_as_script bytes.now) }
 {
-    let mut state = State::Above;
+    let mut state = Progress::Above;
     let mut number = 1;
     for line in split_lines(bytes) {
         match read_line(alloc, state, ahead, number, line)? {
-            Step::Bad(kind) => return Err(ScriptError::Bad { line: number, kind }),
-            Step::Next(next) => state = next,
+            AfterLine::Bad(kind) => return Err(ScriptError::Bad { line: number, kind }),
+            AfterLine::Next(next) => state = next,
         }
         number += 1;
     }
     match state {
-        State::Above => Err(ScriptError::Bad {
+        Progress::Above => Err(ScriptError::Bad {
             line: 1,
             kind: ScriptFault::BadHeader,
         }),
-        State::Below(reader) => Ok(reader.finish()),
+        Progress::Below(reader) => Ok(reader.finish()),
     }
 }
 

@@ -8,7 +8,7 @@ ghost use Rattle.script_tree.specs.Fitting as fitting;
 ghost use Rattle.script_tree.specs.Faults as faults;
 ghost use Rattle.script_tree.specs.ScriptSeen.{plain_script};
 ghost use Rattle.script_tree.specs.Seen.{statement, block as tree_of_block};
-ghost use Rattle.script_parse.specs.Ahead.{place_ahead};
+ghost use Rattle.script_parse.specs.Lookahead.{place_ahead};
 ghost use Rattle.script_parse.specs.Seen.{all_seen};
 ghost use Rattle.script_parse.specs.SeenForms.{seen_form};
 ghost use Rattle.script_parse.specs.SeenParts.{seen_opening, seen_reader};
@@ -19,7 +19,7 @@ ghost use Rattle.script_parse.specs.Lawful.{HasSmallNumbers, NumbersAreSmall};
 ghost use Rattle.script_parse.specs.Reading as reading;
 ghost use Rattle.pct_ask.specs.declared.limits.TheConstants.{MAX_OBJECTS};
 
-use crate::ahead::Ahead;
+use crate::ahead::Lookahead;
 use crate::begin::{begins, names_thread, opens};
 use crate::blocks::{OpenBlock, Opening, depth, is_closed, is_in_if, open_block, push_statement};
 use crate::form::Form;
@@ -83,14 +83,14 @@ impl Reader {
         }
     }
 
-    fn is_known_name(&self, ahead: &Ahead<'_>, kind: NameKind, name: &[u8]) -> bool
+    fn is_known_name(&self, ahead: &Lookahead<'_>, kind: NameKind, name: &[u8]) -> bool
         ensures { result
             ≡ reading.is_known_name self.now.names (place_ahead ahead.now) kind name.now }
     {
         place_in(&self.names, ahead, kind, name).is_some()
     }
 
-    fn uses_unknown(&self, ahead: &Ahead<'_>, form: &Form<'_>) -> bool
+    fn uses_unknown(&self, ahead: &Lookahead<'_>, form: &Form<'_>) -> bool
         ensures { result
             ≡ faults.uses_unknown (reading.is_known_name self.now.names (place_ahead ahead.now))
             (seen_form form.now) }
@@ -182,7 +182,7 @@ impl Reader {
     /// The first fault of a line of this form; `last` tells whether it is the last line.
     pub fn fault_of(
         &self,
-        ahead: &Ahead<'_>,
+        ahead: &Lookahead<'_>,
         last: bool,
         tokens: &[Token<'_>],
         form: &Form<'_>,
@@ -229,7 +229,7 @@ impl Reader {
     pub fn take(
         self,
         alloc: Global,
-        ahead: &Ahead<'_>,
+        ahead: &Lookahead<'_>,
         line: u32,
         form: &Form<'_>,
     ) -> Result<Reader, NoMemory>
@@ -378,7 +378,7 @@ impl Reader {
     fn with_statement(
         self,
         alloc: Global,
-        ahead: &Ahead<'_>,
+        ahead: &Lookahead<'_>,
         line: u32,
         form: &Form<'_>,
     ) -> Result<Reader, NoMemory>

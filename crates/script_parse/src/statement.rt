@@ -6,11 +6,11 @@ ghost use Rattle.script_tree.specs.Forms.{On, Into, Wait};
 ghost use Rattle.script_tree.specs.Seen.{expression, statement};
 ghost use Rattle.script_tree.specs.Trees as trees;
 ghost use Rattle.script_parse.specs.SeenForms.{seen_form};
-ghost use Rattle.script_parse.specs.Ahead.{place_ahead};
+ghost use Rattle.script_parse.specs.Lookahead.{place_ahead};
 ghost use Rattle.script_parse.specs.Lawful.{NumbersAreSmall};
 ghost use Rattle.script_parse.specs.Reading as reading;
 
-use crate::ahead::Ahead;
+use crate::ahead::Lookahead;
 use crate::form::Form;
 use crate::spelling::expression_at;
 use pct_ask::{NameKind, Names};
@@ -18,7 +18,7 @@ use script_tree::{Expr, IntoVerb, OnVerb, Stmt};
 use std::alloc::{AllocError as NoMemory, Global};
 
 /// Where a name of a kind stands among those of its kind: a thread's among those of the whole text.
-pub fn place_in(names: &Names, ahead: &Ahead<'_>, kind: NameKind, name: &[u8]) -> Option<u32>
+pub fn place_in(names: &Names, ahead: &Lookahead<'_>, kind: NameKind, name: &[u8]) -> Option<u32>
     ensures { result ≡ reading.place_in names.now (place_ahead ahead.now) kind name.now }
 {
     match kind {
@@ -101,7 +101,7 @@ fn into_statement(verb: IntoVerb, line: u32, reg: u32, place: u32) -> Stmt
 
 fn on_object(
     names: &Names,
-    ahead: &Ahead<'_>,
+    ahead: &Lookahead<'_>,
     line: u32,
     verb: OnVerb,
     object: &[u8],
@@ -116,7 +116,7 @@ fn on_object(
 
 fn into_register(
     names: &Names,
-    ahead: &Ahead<'_>,
+    ahead: &Lookahead<'_>,
     line: u32,
     verb: IntoVerb,
     reg: u32,
@@ -133,7 +133,7 @@ fn into_register(
 #[tactic(auto, using(script_tree::proofs::laws::SeenParts::seen_laws))]
 fn wait_statement(
     names: &Names,
-    ahead: &Ahead<'_>,
+    ahead: &Lookahead<'_>,
     line: u32,
     cond: &[u8],
     mutex: &[u8],
@@ -177,7 +177,7 @@ fn cas_statement(line: u32, reg: u32, var: u32, old: Expr, new: Expr) -> Stmt
 pub fn statement_on(
     alloc: Global,
     names: &Names,
-    ahead: &Ahead<'_>,
+    ahead: &Lookahead<'_>,
     line: u32,
     form: &Form<'_>,
 ) -> Result<Option<Stmt>, NoMemory>

@@ -21,7 +21,7 @@ pub enum Token<'a> {
 }
 
 /// What stands next in a line.
-enum Next<'a> {
+enum NextToken<'a> {
     End,
     /// No token begins here.
     Bad,
@@ -132,24 +132,24 @@ fn token_of(piece: &[u8]) -> Option<Token<'_>>
 }
 
 /// What stands next in a line.
-fn next_token(line: &[u8]) -> Next<'_>
+fn next_token(line: &[u8]) -> NextToken<'_>
     ensures { IsNext result line.now }
 {
     let rest = without_blanks(line);
     let Some((first, after)) = rest.split_first() else {
-        return Next::End;
+        return NextToken::End;
     };
     if *first == b'#' {
-        return Next::End;
+        return NextToken::End;
     }
     let length = piece_length(*first, after);
     if length == 0 {
-        return Next::Bad;
+        return NextToken::Bad;
     }
     let (piece, others) = rest.split_at(length);
     match token_of(piece) {
-        None => Next::Bad,
-        Some(token) => Next::Token(token, others),
+        None => NextToken::Bad,
+        Some(token) => NextToken::Token(token, others),
     }
 }
 
@@ -162,9 +162,9 @@ pub fn tokens(alloc: Global, line: &[u8]) -> Result<Option<Vec<Token<'_>>>, NoMe
     let mut rest = line;
     loop {
         match next_token(rest) {
-            Next::End => return Ok(Some(tokens)),
-            Next::Bad => return Ok(None),
-            Next::Token(token, others) => {
+            NextToken::End => return Ok(Some(tokens)),
+            NextToken::Bad => return Ok(None),
+            NextToken::Token(token, others) => {
                 tokens.push(token)?;
                 rest = others;
             }

@@ -6,7 +6,7 @@ ghost use Rattle.kit_runs.specs.Runs.{head_with};
 use crate::counters::Counters;
 use crate::programs::{FAILED, counted, names};
 use directive::Directive;
-use kit_directives::{Certified, Found, ShownCertificate, certify, find};
+use kit_directives::{Certified, Finding, ShownCertificate, certify, find};
 use kit_runs::{RunError, small_deal};
 use kit_text::{TextError, show_directive};
 use pct_ask::{Deal, Sequence};
@@ -49,7 +49,7 @@ fn found_of<R: Threads + Wait + Sync>(
     rt: &R,
     alloc: Global,
     file: &TraceFile,
-) -> Result<Found, RunError>
+) -> Result<Finding, RunError>
     requires { head_of file.now.header ≡ head_with 1 (0 ∷ 1 ∷ 2 ∷ []) (1 ∷ []) 10000 }
 {
     let deal = small_deal(alloc, 3, &[0], 0, 0)?;
@@ -59,11 +59,11 @@ fn found_of<R: Threads + Wait + Sync>(
 }
 
 /// The directive's text; nothing where the run passed.
-fn directive_text(alloc: Global, found: &Found) -> Result<Vec<u8>, TextError> {
+fn directive_text(alloc: Global, found: &Finding) -> Result<Vec<u8>, TextError> {
     let names = names(alloc)?;
     let text = match found {
-        Found::Fails { directive, .. } => show_directive(alloc, &names, directive),
-        Found::Passes { .. } => Err(TextError::Unknown),
+        Finding::Fails { directive, .. } => show_directive(alloc, &names, directive),
+        Finding::Passes { .. } => Err(TextError::Unknown),
     };
     drop(names);
     text
@@ -77,7 +77,7 @@ fn finds_a_directive(rt: HostRuntime) -> Result<(), Fail> {
     drop(file);
     let found = found?;
     let text = directive_text(alloc, &found);
-    let is_whole = matches!(found, Found::Fails { steps: 8, .. });
+    let is_whole = matches!(found, Finding::Fails { steps: 8, .. });
     drop(found);
     let wanted = b"directive 1\nlow C\nafter A 1\nverdict failed C 15\n";
     assert_eq!(rt; text?.as_slice(), wanted.as_slice());

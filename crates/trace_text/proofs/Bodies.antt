@@ -15,10 +15,10 @@ use Rattle.trace_text.specs.Lines.{is_empty}
 use Rattle.trace_text.specs.reader.StepLines.{row_of}
 use Rattle.trace_text.specs.reader.Reading.{Fault, Body, unended_fault, line_or_fault, with_event}
 use Rattle.trace_text.specs.reader.Reading.{body_at_verdict, body_from_line, body_of}
-use Rattle.trace_text.specs.declared.row.Row.{Row}
-use Rattle.trace_text.specs.declared.row.Row.TheVariants.{Step, End}
-use Rattle.trace_text.specs.declared.row.Sound.{Sound}
-use Rattle.trace_text.specs.declared.row.Sound.TheVariants as sound
+use Rattle.trace_text.specs.declared.row.TraceRow.{TraceRow}
+use Rattle.trace_text.specs.declared.row.TraceRow.TheVariants.{Step, End}
+use Rattle.trace_text.specs.declared.row.SoundTraceRow.{SoundTraceRow}
+use Rattle.trace_text.specs.declared.row.SoundTraceRow.TheVariants as sound
 use Rattle.trace_text.specs.declared.fault.TraceFault.{TraceFault}
 use Rattle.trace_text.specs.declared.fault.TraceFault.TheVariants.{TooLong, UnknownName, OutOfOrder}
 use Rattle.trace_text.specs.declared.fault.TraceFault.TheVariants.{MoreAfterVerdict}
@@ -35,7 +35,8 @@ with_events-push front event (Ok body) =
 with_events-push front event (Err fault) = refl
 
 -- a line with its LF, and the text after it
-abbrev pub line_then : ℕ → Result Sound TraceFault → List ℕ → Result Body Fault → Result Body Fault
+abbrev pub line_then : ℕ → Result SoundTraceRow TraceFault → List ℕ → Result Body Fault
+    → Result Body Fault
 line_then line (Err kind) after others = Err (line, kind)
 line_then line (Ok (sound.Step event)) after others = with_event event others
 line_then line (Ok (sound.Last verdict)) after others =
@@ -66,7 +67,7 @@ body_at_verdict-after line verdict [] piece pieces is =
 body_at_verdict-after line verdict (b ∷ bs) piece pieces is =
     body_at_verdict-more (b == 10) line verdict b bs piece pieces is
 
-line-after : (line : ℕ) (read : Result Sound TraceFault) (after piece : List ℕ)
+line-after : (line : ℕ) (read : Result SoundTraceRow TraceFault) (after piece : List ℕ)
     (pieces : List (List ℕ)) (others : Result Body Fault) → pieces_of after ≡ piece ∷ pieces
     → body_from_line line read piece pieces others ≡ line_then line read after others
 line-after line (Err kind) after piece pieces others is = refl
@@ -76,7 +77,7 @@ line-after line (Ok (sound.Last verdict)) after piece pieces others is =
 
 -- a line that has its LF
 pub body-line : (names : NameLists) (version limit next : ℕ) (pieces : List (List ℕ))
-    (text after : List ℕ) (row : Option Row) → pieces ≡ text ∷ pieces_of after
+    (text after : List ℕ) (row : Option TraceRow) → pieces ≡ text ∷ pieces_of after
     → row ≡ row_of names version text
     → body_of names version limit next pieces
     ≡ line_then (next + 4) (line_or_fault limit next row) after
@@ -94,7 +95,7 @@ body-line names version limit next pieces text after row is says =
 
 -- a line that lacks its LF
 pub body-unended : (names : NameLists) (version limit next : ℕ) (pieces : List (List ℕ))
-    (text : List ℕ) (row : Option Row) → pieces ≡ text ∷ [] → row ≡ row_of names version text
+    (text : List ℕ) (row : Option TraceRow) → pieces ≡ text ∷ [] → row ≡ row_of names version text
     → body_of names version limit next pieces ≡ Err (next + 4, unended_fault limit row text)
 body-unended names version limit next pieces text row is says =
     ap (body_of names version limit next) is
@@ -105,7 +106,7 @@ body-unended names version limit next pieces text row is says =
 -- a line that has its LF, after the steps before
 pub body-read : (names : NameLists) (version limit next : ℕ) (events : List Event)
     (pieces : List (List ℕ)) (text : List ℕ) (rest : Option (Bor (List ℕ))) (after : Bor (List ℕ))
-    (row : Option Row) (read : Result Sound TraceFault) (start : Result Body Fault)
+    (row : Option TraceRow) (read : Result SoundTraceRow TraceFault) (start : Result Body Fault)
     → with_events events (body_of names version limit next pieces) ≡ start
     → pieces ≡ text ∷ pieces_after rest → rest ≡ Some after → row ≡ row_of names version text
     → line_or_fault limit next row ≡ read
@@ -144,13 +145,13 @@ within-by false false limit next number event other p q h = absurd cc
 within-by false true limit next number event other p q h = grind (arith, nat_tests)
 
 -- a step that is too late or of an unknown name is no sound line
-pub past-unknown : (past : Bool) (s : Sound)
+pub past-unknown : (past : Bool) (s : SoundTraceRow)
     → (if past then Err TooLong else Err UnknownName) ≡ Ok s → ⊥
 past-unknown true s h = cc
 past-unknown false s h = cc
 
 -- a sound step is within the limit
-pub line_or_fault-within : (limit next : ℕ) (row : Option Row) (event : Event)
+pub line_or_fault-within : (limit next : ℕ) (row : Option TraceRow) (event : Event)
     → line_or_fault limit next row ≡ Ok (sound.Step event) → next ≤ limit
 line_or_fault-within limit next None event h = absurd cc
 line_or_fault-within limit next (Some (Step number None)) event h =

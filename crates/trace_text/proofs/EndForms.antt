@@ -37,8 +37,8 @@ use Rattle.trace_text.specs.Lawful.{is_of_second}
 use Rattle.trace_text.specs.reader.StepLines.{step_of_words, tells_reads, end_of, row_of}
 use Rattle.trace_text.specs.Forms.{verdict_since, words_of_form, IsLineOf, HasUnknown}
 use Rattle.trace_text.specs.Forms as forms
-use Rattle.trace_text.specs.declared.row.Row.{Row}
-use Rattle.trace_text.specs.declared.row.Row.TheVariants.{End}
+use Rattle.trace_text.specs.declared.row.TraceRow.{TraceRow}
+use Rattle.trace_text.specs.declared.row.TraceRow.TheVariants.{End}
 use Rattle.trace_text.proofs.Rows.{verdict-joined, words-no-end}
 
 -- ---- the last byte of a verdict's text
@@ -233,7 +233,7 @@ words-end names text verdict form is =
     ∙ words_of-high (codes "verdict") (verdict_words verdict)
     (high-by (codes "verdict") refl, form-high names verdict form)
 
-guarded : (b : Bool) (row other : Row) → (if b then None else Some row) ≡ Some other
+guarded : (b : Bool) (row other : TraceRow) → (if b then None else Some row) ≡ Some other
     → (b ≡ false) × (row ≡ other)
 guarded true row other h = absurd cc
 guarded false row other h = (refl, cc)
@@ -314,7 +314,7 @@ record IsEndPart (names : NameLists) (version : ℕ) (rest : List ℕ) (verdict 
   is : end_of version rest told ≡ Some (End read)
   unknown : HasUnknown names (forms.End verdict) → read ≡ None
 
-left-in : (b : Bool) (row : Row) → b ≡ false → (if b then None else Some row) ≡ Some row
+left-in : (b : Bool) (row : TraceRow) → b ≡ false → (if b then None else Some row) ≡ Some row
 left-in b row h = rw h
 
 part-by : (names : NameLists) (version : ℕ) (rest : List ℕ) (verdict : NamedVerdict)

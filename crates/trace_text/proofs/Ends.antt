@@ -20,8 +20,8 @@ use Rattle.trace_text.specs.declared.asks.WordsRead.{WordsRead}
 use Rattle.trace_text.specs.reader.StepLines.{tells_reads, end_of, numbered_step, step_in_words}
 use Rattle.trace_text.specs.reader.StepLines.{step_of_words, row_of}
 use Rattle.pct_ask.specs.Pieces.{seen}
-use Rattle.trace_text.specs.declared.row.Row.{Row}
-use Rattle.trace_text.specs.declared.row.Row.TheVariants.{End}
+use Rattle.trace_text.specs.declared.row.TraceRow.{TraceRow}
+use Rattle.trace_text.specs.declared.row.TraceRow.TheVariants.{End}
 
 pub end-none : (version : ℕ) (text : List ℕ) (read : VerdictRead) → read ≡ NoForm
     → None ≡ end_of version text read
@@ -119,7 +119,7 @@ row-step names version text other = rw other
 
 -- the words of a step whose ask has four
 pub nine-words : (names : NameLists) (version : ℕ) (words : List (Bor (List ℕ))) (d : Bor (List ℕ))
-    (ask : WordsRead Ask) (result : Option Row) → length words ≡ 9
+    (ask : WordsRead Ask) (result : Option TraceRow) → length words ≡ 9
     → ask ≡ ask_of_words names version (get_or words 3 d).now
     (Three (get_or words 4 d).now (get_or words 5 d).now (get_or words 6 d).now)
     → result ≡ step_in_words names (get_or words 0 d).now (get_or words 1 d).now

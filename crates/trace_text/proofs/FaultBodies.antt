@@ -17,9 +17,9 @@ use Rattle.trace_text.proofs.FaultTests.{has_unknown_thread, is_faulty, IsFirstF
 use Rattle.trace_text.specs.reader.Heads.{order_on_line}
 use Rattle.trace_text.specs.reader.Reading.{Fault, Body, unended_fault, line_or_fault, with_event}
 use Rattle.trace_text.specs.reader.Reading.{body_at_verdict, body_from_line, body_of}
-use Rattle.trace_text.specs.declared.row.Row.TheVariants.{Step, End}
-use Rattle.trace_text.specs.declared.row.Sound.{Sound}
-use Rattle.trace_text.specs.declared.row.Sound.TheVariants as sound
+use Rattle.trace_text.specs.declared.row.TraceRow.TheVariants.{Step, End}
+use Rattle.trace_text.specs.declared.row.SoundTraceRow.{SoundTraceRow}
+use Rattle.trace_text.specs.declared.row.SoundTraceRow.TheVariants as sound
 use Rattle.trace_text.specs.declared.fault.TraceFault.{TraceFault}
 use Rattle.trace_text.specs.declared.fault.TraceFault.TheVariants.{TooLong, BadHeader, BadLine}
 use Rattle.trace_text.specs.declared.fault.TraceFault.TheVariants.{UnknownName, OutOfOrder}
@@ -312,7 +312,7 @@ told-by : (size : ℕ) (names : NameLists) (all : List (List ℕ)) (version limi
     → IsReached size names all version limit m next (piece ∷ after ∷ pieces)
     → (IsReached size names all version limit (suc m) (next + 1) (after ∷ pieces)
     → IsTold size names all (body_of names version limit (next + 1) (after ∷ pieces)))
-    → (read : Result Sound TraceFault)
+    → (read : Result SoundTraceRow TraceFault)
     → line_or_fault limit next (row_of names version piece) ≡ read
     → IsTold size names all (body_from_line (next + 4) read after pieces
     (body_of names version limit (next + 1) (after ∷ pieces)))

@@ -13,14 +13,14 @@ use Rattle.pct_ask.specs.NameLists.{NameLists, AreNames}
 use Rattle.pct_ask.specs.declared.event.Event.{Event}
 use Rattle.trace_text.specs.Lines.{line_at, text_in, is_whole}
 use Rattle.trace_text.specs.reader.Heads.{order_on_line, limit_on_line}
-use Rattle.trace_text.specs.Forms.{AskForm, Form, HasUnknown}
+use Rattle.trace_text.specs.Forms.{Form, HasUnknown}
 use Rattle.trace_text.specs.Forms as forms
 use Rattle.trace_text.specs.Faults.{text_at, has_byte, version_of, HasForm}
 use Rattle.trace_text.specs.Faults.{IsOpen, IsInBody, IsNextNumber, IsFaulty}
 use Rattle.trace_text.specs.Faults.{IsFirstFault}
 use Rattle.trace_text.specs.reader.Reading.{Fault}
-use Rattle.trace_text.specs.declared.row.Row.{Row}
-use Rattle.trace_text.specs.declared.row.Row.TheVariants.{Step, End}
+use Rattle.trace_text.specs.declared.row.TraceRow.{TraceRow}
+use Rattle.trace_text.specs.declared.row.TraceRow.TheVariants.{Step, End}
 use Rattle.trace_text.specs.declared.fault.TraceFault.{TraceFault}
 use Rattle.trace_text.specs.declared.fault.TraceFault.TheVariants.{TooLong, BadHeader, BadLine}
 use Rattle.trace_text.specs.declared.fault.TraceFault.TheVariants.{UnknownName, OutOfOrder}
@@ -196,7 +196,7 @@ module _ (names : NameLists) (sound : AreNames names) (size : ℕ) (pieces : Lis
   abbrev IsClean : ℕ → Type 0
   IsClean k = (j : ℕ) (kind : TraceFault) → j < k → is_faulty size names pieces j kind ≡ false
 
-  step-past : (k : ℕ) (limit : ℕ) (row : Option Row) → row_at names pieces k ≡ row
+  step-past : (k : ℕ) (limit : ℕ) (row : Option TraceRow) → row_at names pieces k ≡ row
       → is_past limit row ≡ true → (n : ℕ) × (event : Option Event)
       × (row_at names pieces k ≡ Some (Step n event)) × (limit < n)
   step-past k limit None e h = absurd cc
@@ -290,7 +290,8 @@ module _ (names : NameLists) (sound : AreNames names) (size : ℕ) (pieces : Lis
         unknown-told names threads h,
       )
 
-  row-unknown : (k : ℕ) (row : Option Row) → IsInBody names pieces k → row_at names pieces k ≡ row
+  row-unknown : (k : ℕ) (row : Option TraceRow) → IsInBody names pieces k
+      → row_at names pieces k ≡ row
       → has_unknown row ≡ true → IsFaulty size names pieces k UnknownName
   row-unknown k None body e h = absurd cc
   row-unknown k (Some (Step n event)) body e h =
@@ -349,7 +350,8 @@ module _ (names : NameLists) (sound : AreNames names) (size : ℕ) (pieces : Lis
       whole true false false h p q = absurd cc
       whole false b false h p q = absurd cc
 
-      by : (row : Option Row) → row_at names pieces (k - 1) ≡ row → is_some row ≡ true → 5 ≤ k - 1
+      by : (row : Option TraceRow) → row_at names pieces (k - 1) ≡ row → is_some row ≡ true
+          → 5 ≤ k - 1
           → (n : ℕ) × (event : Option Event) × (row_at names pieces (k - 1) ≡ Some (Step n event))
       by None e t after = absurd cc
       by (Some (Step n event)) e t after = (n, event, e)
@@ -376,7 +378,7 @@ module _ (names : NameLists) (sound : AreNames names) (size : ℕ) (pieces : Lis
             ap (λ r. number_in r + 1) step.2,
           )
 
-  step-other : (k next : ℕ) (row : Option Row) → row_at names pieces k ≡ row
+  step-other : (k next : ℕ) (row : Option TraceRow) → row_at names pieces k ≡ row
       → is_other_number next row ≡ true
       → (n : ℕ) × (event : Option Event) × (row_at names pieces k ≡ Some (Step n event))
       × (n ≢ next)

@@ -17,10 +17,10 @@ use Rattle.trace_text.proofs.FaultTests.{is_other_number, is_head_line, has_unkn
 use Rattle.trace_text.proofs.FaultTests.{is_faulty}
 use Rattle.trace_text.specs.reader.Heads.{order_on_line}
 use Rattle.trace_text.specs.reader.Reading.{unended_fault, line_or_fault}
-use Rattle.trace_text.specs.declared.row.Row.{Row}
-use Rattle.trace_text.specs.declared.row.Row.TheVariants.{Step, End}
-use Rattle.trace_text.specs.declared.row.Sound.{Sound}
-use Rattle.trace_text.specs.declared.row.Sound.TheVariants as sound
+use Rattle.trace_text.specs.declared.row.TraceRow.{TraceRow}
+use Rattle.trace_text.specs.declared.row.TraceRow.TheVariants.{Step, End}
+use Rattle.trace_text.specs.declared.row.SoundTraceRow.{SoundTraceRow}
+use Rattle.trace_text.specs.declared.row.SoundTraceRow.TheVariants as sound
 use Rattle.trace_text.specs.declared.fault.TraceFault.{TraceFault}
 use Rattle.trace_text.specs.declared.fault.TraceFault.TheVariants.{TooLong, BadHeader, BadLine}
 use Rattle.trace_text.specs.declared.fault.TraceFault.TheVariants.{UnknownName, OutOfOrder}
@@ -29,7 +29,7 @@ use Rattle.trace_text.specs.declared.fault.TraceFault.TheVariants.{NoVerdict, Mo
 -- whether a line after the head, with no verdict before it, is faulty by a kind: by the number of
 -- the next step, the
 -- line's text, whether it has its LF, and what it says
-abbrev pub line_fault : ℕ → ℕ → List ℕ → Bool → Option Row → TraceFault → Bool
+abbrev pub line_fault : ℕ → ℕ → List ℕ → Bool → Option TraceRow → TraceFault → Bool
 line_fault limit next text whole row TooLong = is_past limit row
 line_fault limit next text whole row BadHeader = false
 line_fault limit next text whole row BadLine =
@@ -130,7 +130,8 @@ unended-step true limit next b bs number event p =
 unended-step false limit next b bs number event p =
     first_bad_line (line_fault limit next (b ∷ bs) false (Some (Step number event))) p refl refl
 
-pub unended-first : (names : NameLists) (version limit next : ℕ) (text : List ℕ) (row : Option Row)
+pub unended-first : (names : NameLists) (version limit next : ℕ) (text : List ℕ)
+    (row : Option TraceRow)
     → row ≡ row_of names version text
     → IsFirstKind (line_fault limit next text false row) (unended_fault limit row text)
 unfolding row_of
@@ -146,12 +147,13 @@ unended-first names version limit next (b ∷ bs) (Some (End verdict)) is =
 
 -- ---- a line with its LF
 
-err_is : (a b : TraceFault) → ◌≡◌ {A = Result Sound TraceFault} (Err a) (Err b) → a ≡ b
+err_is : (a b : TraceFault) → ◌≡◌ {A = Result SoundTraceRow TraceFault} (Err a) (Err b) → a ≡ b
 err_is a b h = cc
 
 line_or_fault-unknown : (past : Bool) (limit next : ℕ) (text : List ℕ) (number : ℕ)
     (kind : TraceFault) → nat_lt limit number ≡ past
-    → ◌≡◌ {A = Result Sound TraceFault} (if past then Err TooLong else Err UnknownName) (Err kind)
+    → ◌≡◌ {A = Result SoundTraceRow TraceFault} (if past then Err TooLong else Err UnknownName)
+    (Err kind)
     → IsFirstKind (line_fault limit next text true (Some (Step number None))) kind
 line_or_fault-unknown true limit next text number kind p h =
     rw (← err_is TooLong kind h) (first_too_long
@@ -174,7 +176,8 @@ line_or_fault-order false false limit next text number event kind p q h =
     rw (← err_is OutOfOrder kind h) (first_out_of_order
     (line_fault limit next text true (Some (Step number (Some event)))) p refl refl refl other)
 
-pub line_or_fault-first : (limit next : ℕ) (text : List ℕ) (row : Option Row) (kind : TraceFault)
+pub line_or_fault-first : (limit next : ℕ) (text : List ℕ) (row : Option TraceRow)
+    (kind : TraceFault)
     → line_or_fault limit next row ≡ Err kind
     → IsFirstKind (line_fault limit next text true row) kind
 line_or_fault-first limit next text None kind h =
@@ -191,7 +194,7 @@ line_or_fault-first limit next text (Some (End None)) kind h =
 line_or_fault-first limit next text (Some (End (Some verdict))) kind h = absurd cc
 
 step-none : (past same : Bool) (limit next : ℕ) (text : List ℕ) (number : ℕ) (event : Event)
-    (s : Sound) → nat_lt limit number ≡ past → (number == next) ≡ same
+    (s : SoundTraceRow) → nat_lt limit number ≡ past → (number == next) ≡ same
     → (if past then Err TooLong else (if same then Ok (sound.Step event) else Err OutOfOrder))
     ≡ Ok s → (kind : TraceFault) → line_fault limit next text true (Some (Step number (Some event)))
     kind ≡ false
@@ -216,7 +219,8 @@ end-none limit next text verdict NoVerdict = refl
 end-none limit next text verdict MoreAfterVerdict = refl
 
 -- a sound line is faulty by none
-pub line_or_fault-none : (limit next : ℕ) (text : List ℕ) (row : Option Row) (s : Sound)
+pub line_or_fault-none : (limit next : ℕ) (text : List ℕ) (row : Option TraceRow)
+    (s : SoundTraceRow)
     → line_or_fault limit next row ≡ Ok s → (kind : TraceFault)
     → line_fault limit next text true row kind ≡ false
 line_or_fault-none limit next text None s h kind = absurd cc

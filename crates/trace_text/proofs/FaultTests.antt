@@ -10,8 +10,8 @@ use Rattle.trace_text.specs.reader.Heads.{version_on_line, order_on_line, thread
 use Rattle.trace_text.specs.reader.Heads.{points_on_line, limit_on_line}
 use Rattle.trace_text.specs.reader.StepLines.{row_of}
 use Rattle.trace_text.specs.Faults.{has_byte, kind_rank}
-use Rattle.trace_text.specs.declared.row.Row.{Row}
-use Rattle.trace_text.specs.declared.row.Row.TheVariants.{Step, End}
+use Rattle.trace_text.specs.declared.row.TraceRow.{TraceRow}
+use Rattle.trace_text.specs.declared.row.TraceRow.TheVariants.{Step, End}
 use Rattle.trace_text.specs.declared.fault.TraceFault.{TraceFault}
 use Rattle.trace_text.specs.declared.fault.TraceFault.TheVariants.{TooLong, BadHeader, BadLine}
 use Rattle.trace_text.specs.declared.fault.TraceFault.TheVariants.{UnknownName, OutOfOrder}
@@ -26,10 +26,10 @@ version_of pieces = unwrap_or (version_on_line (text_in (line_at pieces 1))) 1
 abbrev pub limit_of : List (List ℕ) → ℕ
 limit_of pieces = unwrap_or (limit_on_line (text_in (line_at pieces 4))) 0
 
-abbrev pub row_at : NameLists → List (List ℕ) → ℕ → Option Row
+abbrev pub row_at : NameLists → List (List ℕ) → ℕ → Option TraceRow
 row_at names pieces k = row_of names (version_of pieces) (text_in (line_at pieces k))
 
-abbrev pub is_verdict : Option Row → Bool
+abbrev pub is_verdict : Option TraceRow → Bool
 is_verdict None = false
 is_verdict (Some (Step number event)) = false
 is_verdict (Some (End verdict)) = true
@@ -45,7 +45,7 @@ abbrev pub is_in_body : NameLists → List (List ℕ) → ℕ → Bool
 is_in_body names pieces k = nat_le 5 k && not (has_verdict names pieces (k - 5))
 
 -- the number of a step line
-abbrev pub number_in : Option Row → ℕ
+abbrev pub number_in : Option TraceRow → ℕ
 number_in None = 0
 number_in (Some (Step number event)) = number
 number_in (Some (End verdict)) = 0
@@ -54,17 +54,17 @@ number_in (Some (End verdict)) = 0
 abbrev pub number_before : NameLists → List (List ℕ) → ℕ → ℕ
 number_before names pieces k = if nat_le k 5 then 0 else number_in (row_at names pieces (k - 1))
 
-abbrev pub is_past : ℕ → Option Row → Bool
+abbrev pub is_past : ℕ → Option TraceRow → Bool
 is_past limit None = false
 is_past limit (Some (Step number event)) = nat_lt limit number
 is_past limit (Some (End verdict)) = false
 
-abbrev pub has_unknown : Option Row → Bool
+abbrev pub has_unknown : Option TraceRow → Bool
 has_unknown None = false
 has_unknown (Some (Step number event)) = is_none event
 has_unknown (Some (End verdict)) = is_none verdict
 
-abbrev pub is_other_number : ℕ → Option Row → Bool
+abbrev pub is_other_number : ℕ → Option TraceRow → Bool
 is_other_number number None = false
 is_other_number number (Some (Step n event)) = not (n == number)
 is_other_number number (Some (End verdict)) = false

@@ -19,8 +19,8 @@ use Rattle.trace_text.specs.Forms as forms
 use Rattle.trace_text.specs.Faults.{text_at, version_of, HasForm, IsStepLine}
 use Rattle.trace_text.specs.Faults.{IsVerdictLine, IsInBody}
 use Rattle.trace_text.specs.reader.StepLines.{row_of}
-use Rattle.trace_text.specs.declared.row.Row.{Row}
-use Rattle.trace_text.specs.declared.row.Row.TheVariants.{Step, End}
+use Rattle.trace_text.specs.declared.row.TraceRow.{TraceRow}
+use Rattle.trace_text.specs.declared.row.TraceRow.TheVariants.{Step, End}
 use Rattle.trace_text.proofs.VerbTable.{first-or-second}
 use Rattle.trace_text.proofs.StepForms.{step-form, step-read}
 use Rattle.trace_text.proofs.EndForms.{never, end-form, end-read}
@@ -29,9 +29,7 @@ use Rattle.trace_text.proofs.HeadForms.{order-form, order-read}
 use Rattle.trace_text.proofs.HeadForms.{points-form, points-read, limit-form, limit-read}
 use Rattle.trace_text.proofs.FaultTests as tests
 use Rattle.trace_text.proofs.FaultTests.{limit_of, row_at, is_verdict, has_verdict, is_in_body}
-use Rattle.trace_text.proofs.FaultTests.{number_in, number_before, is_past, has_unknown}
-use Rattle.trace_text.proofs.FaultTests.{is_other_number, is_head_line, has_unknown_thread}
-use Rattle.trace_text.proofs.FaultTests.{is_faulty, IsFirstFound}
+use Rattle.trace_text.proofs.FaultTests.{is_head_line}
 
 -- ---- tests
 
@@ -112,7 +110,7 @@ module _ (names : NameLists) (sound : AreNames names) (size : ℕ) (pieces : Lis
       → IsVerdictLine names pieces k
   verdict-found k low h = by (row_at names pieces k) refl h
     where
-      by : (row : Option Row) → row_at names pieces k ≡ row → is_verdict row ≡ true
+      by : (row : Option TraceRow) → row_at names pieces k ≡ row → is_verdict row ≡ true
           → IsVerdictLine names pieces k
       by None e t = absurd cc
       by (Some (Step n event)) e t = absurd cc
@@ -234,7 +232,7 @@ module _ (names : NameLists) (sound : AreNames names) (size : ℕ) (pieces : Lis
       → (form : Form) × HasForm names pieces k form
   row-found k low h = by (row_at names pieces k) refl h
     where
-      by : (row : Option Row) → row_at names pieces k ≡ row → is_some row ≡ true
+      by : (row : Option TraceRow) → row_at names pieces k ≡ row → is_some row ≡ true
           → (form : Form) × HasForm names pieces k form
       by None e t = absurd cc
       by (Some (Step n event)) e t = let f = step-found k n event low e in

@@ -31,7 +31,7 @@ use Rattle.trace_text.specs.reader.Asks.{has_form, known_words}
 use Rattle.trace_text.specs.reader.StepLines.{event_of, numbered_step, step_of_parts, step_in_words}
 use Rattle.trace_text.specs.reader.StepLines.{step_of_words, tells_reads, end_of, row_of}
 use Rattle.trace_text.specs.declared.asks.WordsRead.{WordsRead}
-use Rattle.trace_text.specs.declared.row.Row.TheVariants.{Step, End}
+use Rattle.trace_text.specs.declared.row.TraceRow.TheVariants.{Step, End}
 use Rattle.trace_text.proofs.StepWords.{IsStepLine, words-told, words-known}
 use Rattle.trace_text.proofs.Bytes.{step-high}
 

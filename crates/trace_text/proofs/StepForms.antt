@@ -25,7 +25,7 @@ use Rattle.trace_text.specs.declared.asks.WordsRead.TheVariants.{Is, NoForm, Unk
 use Rattle.trace_text.specs.Forms.{AskForm, words_of_ask, words_of_form, IsLineOf, HasUnknown}
 use Rattle.trace_text.specs.Forms.{AsksUnknown, IsUndeclared}
 use Rattle.trace_text.specs.Forms as forms
-use Rattle.trace_text.specs.declared.row.Row.TheVariants.{Step}
+use Rattle.trace_text.specs.declared.row.TraceRow.TheVariants.{Step}
 use Rattle.trace_text.proofs.Values.{i64_in-Some, Some-i64_in}
 use Rattle.trace_text.proofs.AskWords.{ask_in}
 use Rattle.trace_text.proofs.StepWords.{natural-decimal, decimal-natural, step_words, read-words}

@@ -21,7 +21,7 @@ use Rattle.trace_text.specs.reader.StepLines.{event_of, numbered_step, step_of_p
 use Rattle.trace_text.specs.reader.StepLines.{step_of_words}
 use Rattle.trace_text.specs.declared.asks.WordsRead.{WordsRead}
 use Rattle.trace_text.specs.declared.asks.WordsRead.TheVariants.{Is, NoForm, UnknownName}
-use Rattle.trace_text.specs.declared.row.Row.TheVariants.{Step}
+use Rattle.trace_text.specs.declared.row.TraceRow.TheVariants.{Step}
 use Rattle.trace_text.proofs.Names.{object-known, known-object}
 use Rattle.trace_text.proofs.Values.{i64_in-Some, Some-i64_in, fits-natural}
 use Rattle.trace_text.proofs.AskWords.{ask_in, ask-known, ask-told, HasFewWords, few-words}

@@ -16,10 +16,10 @@ use Rattle.pct_ask.specs.Pieces.{pieces_of}
 use Rattle.trace_text.specs.reader.StepLines.{row_of}
 use Rattle.trace_text.specs.reader.Reading.{Fault, Body, line_or_fault, with_event, body_at_verdict}
 use Rattle.trace_text.specs.reader.Reading.{body_from_line, body_of}
-use Rattle.trace_text.specs.declared.row.Row.{Row}
-use Rattle.trace_text.specs.declared.row.Row.TheVariants.{Step, End}
-use Rattle.trace_text.specs.declared.row.Sound.{Sound}
-use Rattle.trace_text.specs.declared.row.Sound.TheVariants as sound
+use Rattle.trace_text.specs.declared.row.TraceRow.{TraceRow}
+use Rattle.trace_text.specs.declared.row.TraceRow.TheVariants.{Step, End}
+use Rattle.trace_text.specs.declared.row.SoundTraceRow.{SoundTraceRow}
+use Rattle.trace_text.specs.declared.row.SoundTraceRow.TheVariants as sound
 use Rattle.trace_text.specs.declared.fault.TraceFault.{TraceFault}
 use Rattle.trace_text.specs.declared.fault.TraceFault.TheVariants.{TooLong, OutOfOrder}
 use Rattle.pct_ask.proofs.laws.TextBytes.{HasNoEnd}
@@ -88,7 +88,7 @@ no-last true same event verdict h = cc
 no-last false true event verdict h = cc
 no-last false false event verdict h = cc
 
-pub line_or_fault-step : (limit next : ℕ) (row : Option Row) (event : Event)
+pub line_or_fault-step : (limit next : ℕ) (row : Option TraceRow) (event : Event)
     → line_or_fault limit next row ≡ Ok (sound.Step event) → row ≡ Some (Step next (Some event))
 line_or_fault-step limit next None event h = absurd cc
 line_or_fault-step limit next (Some (Step number None)) event h =
@@ -99,7 +99,7 @@ line_or_fault-step limit next (Some (Step number (Some e))) event h =
 line_or_fault-step limit next (Some (End None)) event h = absurd cc
 line_or_fault-step limit next (Some (End (Some verdict))) event h = absurd cc
 
-pub line_or_fault-last : (limit next : ℕ) (row : Option Row) (verdict : Verdict)
+pub line_or_fault-last : (limit next : ℕ) (row : Option TraceRow) (verdict : Verdict)
     → line_or_fault limit next row ≡ Ok (sound.Last verdict) → row ≡ Some (End (Some verdict))
 line_or_fault-last limit next None verdict h = absurd cc
 line_or_fault-last limit next (Some (Step number None)) verdict h =
@@ -192,7 +192,7 @@ body-by : (names : NameLists) (version limit next : ℕ) (piece after : List ℕ
     → ((es : List Event) → next + 1 ≤ limit + 1
     → body_of names version limit (next + 1) (after ∷ pieces) ≡ Ok (es, verdict)
     → IsBody names version limit (next + 1) (after ∷ pieces) es verdict)
-    → (read : Result Sound TraceFault)
+    → (read : Result SoundTraceRow TraceFault)
     → line_or_fault limit next (row_of names version piece) ≡ read
     → body_from_line (next + 4) read after pieces
     (body_of names version limit (next + 1) (after ∷ pieces)) ≡ Ok (events, verdict)

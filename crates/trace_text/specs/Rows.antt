@@ -18,7 +18,7 @@ use Rattle.trace_text.specs.Forms.{Order, Points, Limit, End, Name, Value, ask_f
 use Rattle.trace_text.specs.declared.verbs.Verb.TheVariants as verbs
 use Rattle.trace_text.specs.declared.verbs.Operands.TheVariants.{One, Two, Three}
 use Rattle.pct_ask.specs.Pieces.{pieces_of}
-use Rattle.trace_text.specs.declared.row.Row.TheVariants.{Step}
+use Rattle.trace_text.specs.declared.row.TraceRow.TheVariants.{Step}
 
 -- two threads, a variable and a read-write lock
 abbrev pub some_names : NameLists

@@ -15,7 +15,7 @@ ghost use Rattle.pct_ask.specs.declared.limits.TheConstants.{MAX_STEPS};
 use crate::fault::{TraceError, TraceFault};
 use crate::file::{Header, TraceFile};
 use crate::head::{read_limit, read_order, read_points, read_version};
-use crate::row::{Sound, line_or_fault, read_row, unended_fault};
+use crate::row::{SoundTraceRow, line_or_fault, read_row, unended_fault};
 use pct_ask::{EventList, NameKind, Names, Verdict, cut_line};
 use std::alloc::Global;
 
@@ -60,8 +60,8 @@ fn read_body(
         };
         match line_or_fault(limit, next, row) {
             Err(kind) => return Err(TraceError::Bad { line, kind }),
-            Ok(Sound::Step(event)) => events.try_push(event)?,
-            Ok(Sound::Last(verdict)) => {
+            Ok(SoundTraceRow::Step(event)) => events.try_push(event)?,
+            Ok(SoundTraceRow::Last(verdict)) => {
                 if after.is_empty() {
                     return Ok(Body { events, verdict });
                 }

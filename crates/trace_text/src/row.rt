@@ -31,14 +31,14 @@ const SECOND_MISUSE: &[u8] = b" toomanyreads";
 /// there is no event and
 /// no verdict.
 #[derive(Clone, Copy)]
-pub enum Row {
+pub enum TraceRow {
     Step { number: u64, event: Option<Event> },
     End { verdict: Option<Verdict> },
 }
 
 /// What a sound line says.
 #[derive(Clone, Copy)]
-pub enum Sound {
+pub enum SoundTraceRow {
     Step(Event),
     Last(Verdict),
 }
@@ -79,11 +79,11 @@ fn numbered_step(
     line: u32,
     ask: WordsRead<Ask>,
     answer: i64,
-) -> Option<Row>
+) -> Option<TraceRow>
     ensures { result ≡ lines.numbered_step number thread line ask answer }
 {
     if thread.has_form() && ask.has_form() {
-        Some(Row::Step {
+        Some(TraceRow::Step {
             number,
             event: event_of(thread.known_words(), line, ask.known_words(), answer),
         })
@@ -93,7 +93,7 @@ fn numbered_step(
 }
 
 #[tactic(auto, unfolding(crate::specs::reader::StepLines::step_in_words))]
-fn step_in_words(names: &Names, around: &Around<'_>, ask: WordsRead<Ask>) -> Option<Row>
+fn step_in_words(names: &Names, around: &Around<'_>, ask: WordsRead<Ask>) -> Option<TraceRow>
     ensures { result
         ≡ lines.step_in_words names.now around.now.number.now around.now.thread.now
         around.now.line.now
@@ -109,7 +109,7 @@ fn step_in_words(names: &Names, around: &Around<'_>, ask: WordsRead<Ask>) -> Opt
     numbered_step(number, thread, line, ask, answer)
 }
 
-fn bare_step(names: &Names, version: u32, words: &[&[u8]]) -> Option<Row>
+fn bare_step(names: &Names, version: u32, words: &[&[u8]]) -> Option<TraceRow>
     ensures { length words.now ≡ 6
         → result ≡ lines.step_of_words names.now version (seen words.now) }
 {
@@ -127,7 +127,7 @@ fn bare_step(names: &Names, version: u32, words: &[&[u8]]) -> Option<Row>
     step_in_words(names, &around, ask)
 }
 
-fn step_on_one(names: &Names, version: u32, words: &[&[u8]]) -> Option<Row>
+fn step_on_one(names: &Names, version: u32, words: &[&[u8]]) -> Option<TraceRow>
     ensures { length words.now ≡ 7
         → result ≡ lines.step_of_words names.now version (seen words.now) }
 {
@@ -145,7 +145,7 @@ fn step_on_one(names: &Names, version: u32, words: &[&[u8]]) -> Option<Row>
     step_in_words(names, &around, ask)
 }
 
-fn step_on_two(names: &Names, version: u32, words: &[&[u8]]) -> Option<Row>
+fn step_on_two(names: &Names, version: u32, words: &[&[u8]]) -> Option<TraceRow>
     ensures { length words.now ≡ 8
         → result ≡ lines.step_of_words names.now version (seen words.now) }
 {
@@ -163,7 +163,7 @@ fn step_on_two(names: &Names, version: u32, words: &[&[u8]]) -> Option<Row>
     step_in_words(names, &around, ask)
 }
 
-fn step_on_three(names: &Names, version: u32, words: &[&[u8]]) -> Option<Row>
+fn step_on_three(names: &Names, version: u32, words: &[&[u8]]) -> Option<TraceRow>
     ensures { length words.now ≡ 9
         → result ≡ lines.step_of_words names.now version (seen words.now) }
 {
@@ -182,7 +182,7 @@ fn step_on_three(names: &Names, version: u32, words: &[&[u8]]) -> Option<Row>
 }
 
 /// The step that the words of a line tell. The words of its ask are one to four.
-fn read_step(names: &Names, version: u32, words: &[&[u8]]) -> Option<Row>
+fn read_step(names: &Names, version: u32, words: &[&[u8]]) -> Option<TraceRow>
     ensures { result ≡ lines.step_of_words names.now version (seen words.now) }
 {
     if words.len() == 6 {
@@ -217,7 +217,7 @@ fn is_of_second(verdict: &Verdict) -> bool
     )
 }
 
-fn read_end(names: &Names, version: u32, text: &[u8]) -> Option<Row>
+fn read_end(names: &Names, version: u32, text: &[u8]) -> Option<TraceRow>
     ensures { result
         ≡ lines.end_of version text.now (verdict_of_words names.now (words_of text.now)) }
 {
@@ -227,14 +227,14 @@ fn read_end(names: &Names, version: u32, text: &[u8]) -> Option<Row>
             if version == 1 && tells_reads(text) {
                 None
             } else {
-                Some(Row::End { verdict: None })
+                Some(TraceRow::End { verdict: None })
             }
         }
         VerdictRead::Is(verdict) => {
             if version == 1 && is_of_second(&verdict) {
                 None
             } else {
-                Some(Row::End {
+                Some(TraceRow::End {
                     verdict: Some(verdict),
                 })
             }
@@ -249,7 +249,7 @@ pub fn read_row(
     names: &Names,
     version: u32,
     line: &[u8],
-) -> Result<Option<Row>, NoMemory>
+) -> Result<Option<TraceRow>, NoMemory>
     ensures { IfOk result (λ row. row ≡ lines.row_of names.now version line.now) }
 {
     match line.strip_prefix(VERDICT) {
@@ -262,39 +262,45 @@ pub fn read_row(
 }
 
 /// The fault of a line with no LF.
-pub fn unended_fault(limit: u32, row: Option<Row>, text: &[u8]) -> TraceFault
+pub fn unended_fault(limit: u32, row: Option<TraceRow>, text: &[u8]) -> TraceFault
     ensures { result ≡ reading.unended_fault limit row text.now }
 {
     match row {
         None if text.is_empty() => TraceFault::NoVerdict,
-        Some(Row::Step { number, .. }) if u64::from(limit) < number => TraceFault::TooLong,
+        Some(TraceRow::Step { number, .. }) if u64::from(limit) < number => TraceFault::TooLong,
         _ => TraceFault::BadLine,
     }
 }
 
 /// What a line with its LF says, where the next step has this number, or its fault.
-pub fn line_or_fault(limit: u32, next: u32, row: Option<Row>) -> Result<Sound, TraceFault>
+pub fn line_or_fault(
+    limit: u32,
+    next: u32,
+    row: Option<TraceRow>,
+) -> Result<SoundTraceRow, TraceFault>
     ensures { result ≡ reading.line_or_fault limit next row }
 {
     match row {
         None => Err(TraceFault::BadLine),
-        Some(Row::Step { number, .. }) if u64::from(limit) < number => Err(TraceFault::TooLong),
-        Some(Row::Step { number, event }) => judged_event(next, number, event),
-        Some(Row::End { verdict: None }) => Err(TraceFault::UnknownName),
+        Some(TraceRow::Step { number, .. }) if u64::from(limit) < number => Err(
+            TraceFault::TooLong,
+        ),
+        Some(TraceRow::Step { number, event }) => judged_event(next, number, event),
+        Some(TraceRow::End { verdict: None }) => Err(TraceFault::UnknownName),
         Some(
-            Row::End {
+            TraceRow::End {
                 verdict: Some(verdict),
             },
-        ) => Ok(Sound::Last(verdict)),
+        ) => Ok(SoundTraceRow::Last(verdict)),
     }
 }
 
-fn judged_event(next: u32, number: u64, event: Option<Event>) -> Result<Sound, TraceFault>
+fn judged_event(next: u32, number: u64, event: Option<Event>) -> Result<SoundTraceRow, TraceFault>
     ensures { result ≡ reading.judged_event next number event }
 {
     match event {
         None => Err(TraceFault::UnknownName),
-        Some(event) if number == u64::from(next) => Ok(Sound::Step(event)),
+        Some(event) if number == u64::from(next) => Ok(SoundTraceRow::Step(event)),
         Some(_) => Err(TraceFault::OutOfOrder),
     }
 }

@@ -2,9 +2,9 @@ ghost use Rattle.std.specs.Prelude.{◌≡◌, ◌+◌};
 
 use crate::brief::Brief;
 use crate::flags::{chosen, either, lowest};
-use crate::keep::{Keep, Nothing};
+use crate::keep::{Keep, Nowhere};
 use crate::round::Round;
-use crate::rule::{Both, Law};
+use crate::rule::{Both, LockLaw};
 use crate::seat::Seat;
 use crate::slot::Slot;
 use crate::turn::Turn;
@@ -31,7 +31,7 @@ const LOOKS: u32 = 200;
 /// A lock that holds a book of turns, for many seats.
 #[derive(Drop)]
 pub struct TurnLock<P: Policy> {
-    pub(crate) table: Table<Slot<P>, View, Snapshot<Slot<P>>, Law, Global>,
+    pub(crate) table: Table<Slot<P>, View, Snapshot<Slot<P>>, LockLaw, Global>,
     ghost words: { table.shared.table_id.words ≡ table.shared.key.value.book.deal.threads + 1 },
     ghost slots: { table.shared.table_id.slots ≡ 1 },
 }
@@ -227,7 +227,7 @@ impl<P: Policy> TurnLock<P> {
             result }
         ensures obeys { ObeysPlan (view seat.new).seen }
     {
-        self.post_in_brief(rt, seat, thread, post, &mut Nothing)
+        self.post_in_brief(rt, seat, thread, post, &mut Nowhere)
     }
 
     /// As `post_wait`, in brief. The outcome is kept where the run is over.
@@ -362,7 +362,7 @@ impl<P: Policy> TurnLock<P> {
             result.1 }
         ensures obeys { ObeysPlan (view seat.new).seen }
     {
-        self.turn_in_brief(rt, seat, &mut Nothing)
+        self.turn_in_brief(rt, seat, &mut Nowhere)
     }
 
     /// As `turn_any`, in brief. The outcome is kept where the run is over.

@@ -23,9 +23,9 @@ impl Keep for Option<Outcome> {
 
 /// The outcome isn't kept.
 #[derive(Drop)]
-pub struct Nothing;
+pub struct Nowhere;
 
-impl Keep for Nothing {
+impl Keep for Nowhere {
     ghost kept = { λ outcome place. Unit {0} };
 
     fn keep(&mut self, _outcome: Option<Outcome>) {}

@@ -13,9 +13,9 @@ use std::snapshot::Snapshot;
 pub type TableSeat<P> = atomic_table::Seat<Slot<P>, View>;
 
 /// What is true between any two steps.
-pub struct Law;
+pub struct LockLaw;
 
-impl<P: Policy> TableRule<Slot<P>, View, Snapshot<Slot<P>>> for Law {
+impl<P: Policy> TableRule<Slot<P>, View, Snapshot<Slot<P>>> for LockLaw {
     ghost holds = { λ key. KeepsRule key.value.book };
 
     ghost first = { λ key. first_view key.value.book };

@@ -9,10 +9,10 @@ use Rattle.trace_text.specs.Lines.{is_empty}
 use Rattle.trace_text.specs.reader.Heads.{version_on_line, order_on_line, threads_of_names}
 use Rattle.trace_text.specs.reader.Heads.{points_on_line, limit_on_line}
 use Rattle.trace_text.specs.reader.StepLines.{row_of}
-use Rattle.trace_text.specs.declared.row.Row.{Row}
-use Rattle.trace_text.specs.declared.row.Row.TheVariants.{Step, End}
-use Rattle.trace_text.specs.declared.row.Sound.{Sound}
-use Rattle.trace_text.specs.declared.row.Sound.TheVariants as sound
+use Rattle.trace_text.specs.declared.row.TraceRow.{TraceRow}
+use Rattle.trace_text.specs.declared.row.TraceRow.TheVariants.{Step, End}
+use Rattle.trace_text.specs.declared.row.SoundTraceRow.{SoundTraceRow}
+use Rattle.trace_text.specs.declared.row.SoundTraceRow.TheVariants as sound
 use Rattle.trace_text.specs.declared.fault.TraceFault.{TraceFault}
 use Rattle.trace_text.specs.declared.fault.TraceFault.TheVariants.{TooLong, BadHeader, BadLine}
 use Rattle.trace_text.specs.declared.fault.TraceFault.TheVariants.{UnknownName, OutOfOrder}
@@ -59,20 +59,20 @@ order_line names pieces = do
 -- ---- the steps and the verdict
 
 -- the fault of a line with no LF
-abbrev pub unended_fault : ℕ → Option Row → List ℕ → TraceFault
+abbrev pub unended_fault : ℕ → Option TraceRow → List ℕ → TraceFault
 unended_fault limit None text = if is_empty text then NoVerdict else BadLine
 unended_fault limit (Some (Step number event)) text =
     if nat_lt limit number then TooLong else BadLine
 unended_fault limit (Some (End verdict)) text = BadLine
 
 -- a step line within the limit: its event, where the step has the next number
-abbrev pub judged_event : ℕ → ℕ → Option Event → Result Sound TraceFault
+abbrev pub judged_event : ℕ → ℕ → Option Event → Result SoundTraceRow TraceFault
 judged_event next number None = Err UnknownName
 judged_event next number (Some event) =
     if number == next then Ok (sound.Step event) else Err OutOfOrder
 
 -- what a line with its LF is, where the next step has this number, or its fault
-abbrev pub line_or_fault : ℕ → ℕ → Option Row → Result Sound TraceFault
+abbrev pub line_or_fault : ℕ → ℕ → Option TraceRow → Result SoundTraceRow TraceFault
 line_or_fault limit next None = Err BadLine
 line_or_fault limit next (Some (Step number event)) =
     if nat_lt limit number then Err TooLong else judged_event next number event
@@ -95,7 +95,8 @@ body_at_verdict line verdict [] (piece ∷ pieces) = Err (line, MoreAfterVerdict
 body_at_verdict line verdict (b ∷ bs) pieces = Err (line, MoreAfterVerdict)
 
 -- what is read from a line on, by what the line is and what is read of the lines behind it
-abbrev pub body_from_line : ℕ → Result Sound TraceFault → List ℕ → List (List ℕ) → Result Body Fault
+abbrev pub body_from_line : ℕ → Result SoundTraceRow TraceFault → List ℕ → List (List ℕ)
+    → Result Body Fault
     → Result Body Fault
 body_from_line line (Err kind) piece pieces others = Err (line, kind)
 body_from_line line (Ok (sound.Step event)) piece pieces others = with_event event others

@@ -15,8 +15,8 @@ use Rattle.trace_text.specs.reader.Asks.{has_form, known_words, object, ask_of_w
 use Rattle.trace_text.specs.Lawful.{is_of_second}
 use Rattle.trace_text.specs.declared.asks.WordsRead.{WordsRead}
 use Rattle.trace_text.specs.declared.verbs.Operands.TheVariants.{Bare, One, Two, Three}
-use Rattle.trace_text.specs.declared.row.Row.{Row}
-use Rattle.trace_text.specs.declared.row.Row.TheVariants.{Step, End}
+use Rattle.trace_text.specs.declared.row.TraceRow.{TraceRow}
+use Rattle.trace_text.specs.declared.row.TraceRow.TheVariants.{Step, End}
 
 -- the event of a step, where its thread and the objects of its ask are known
 abbrev pub event_of : Option ℕ → ℕ → Option Ask → ℤ → Option Event
@@ -26,7 +26,7 @@ event_of (Some thread) line (Some ask) answer =
     Some (record { thread = thread; line = line; ask = ask; answer = answer })
 
 -- a step whose numbers are read, where its thread and its ask have their forms
-abbrev pub numbered_step : ℕ → WordsRead ℕ → ℕ → WordsRead Ask → ℤ → Option Row
+abbrev pub numbered_step : ℕ → WordsRead ℕ → ℕ → WordsRead Ask → ℤ → Option TraceRow
 numbered_step number thread line ask answer =
     if has_form thread && has_form ask
     then Some (Step number (event_of (known_words thread) line (known_words ask) answer))
@@ -34,7 +34,7 @@ numbered_step number thread line ask answer =
 
 -- a step, where each of its parts is read and `=` stands before the answer
 abbrev pub step_of_parts : Option ℕ → WordsRead ℕ → Option ℕ → WordsRead Ask → Bool → Option ℤ
-    → Option Row
+    → Option TraceRow
 step_of_parts None thread line ask sign answer = None
 step_of_parts (Some n) thread None ask sign answer = None
 step_of_parts (Some n) thread (Some line) ask false answer = None
@@ -45,13 +45,13 @@ step_of_parts (Some n) thread (Some line) ask true (Some answer) =
 -- the parts of a step line, but for its ask
 unfoldable pub step_in_words : NameLists → List ℕ → List ℕ → List ℕ → WordsRead Ask → List ℕ
     → List ℕ
-    → Option Row
+    → Option TraceRow
 step_in_words names number thread line ask sign answer =
     step_of_parts (natural_of number) (object names Thread thread) (line_number line) ask
     (bytes_eq sign (codes "=")) (i64_in answer)
 
 -- STEP THREAD LINE ASK = ANSWER, where ASK has one word to four
-abbrev pub step_of_words : NameLists → ℕ → List (List ℕ) → Option Row
+abbrev pub step_of_words : NameLists → ℕ → List (List ℕ) → Option TraceRow
 step_of_words names version (number ∷ thread ∷ line ∷ word ∷ sign ∷ answer ∷ []) =
     step_in_words names number thread line (ask_of_words names version word Bare) sign answer
 step_of_words names version (number ∷ thread ∷ line ∷ word ∷ a ∷ sign ∷ answer ∷ []) =
@@ -69,7 +69,7 @@ tells_reads text = ends_with nat_eq text (codes " toomanyreads")
 
 -- The verdict of a text, by how the text is read: the first version has none that comes from
 -- read-write locks alone.
-abbrev pub end_of : ℕ → List ℕ → VerdictRead → Option Row
+abbrev pub end_of : ℕ → List ℕ → VerdictRead → Option TraceRow
 end_of version text NoForm = None
 end_of version text UnknownName = if version == 1 && tells_reads text then None else Some (End None)
 end_of version text (Is verdict) =
@@ -77,7 +77,7 @@ end_of version text (Is verdict) =
 
 -- What a line says: a step, by its number and its event, or a verdict; none of them where a name
 -- isn't declared with the kind that its place needs. Nothing where the line has neither form.
-unfoldable pub row_of : NameLists → ℕ → List ℕ → Option Row
+unfoldable pub row_of : NameLists → ℕ → List ℕ → Option TraceRow
 row_of names version text =
     if bytes_eq (take 8 text) (codes "verdict ")
     then end_of version (drop 8 text) (verdict_of_words names (words_of (drop 8 text)))

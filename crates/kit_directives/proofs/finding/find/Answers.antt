@@ -1,5 +1,5 @@
 use Rattle.std.proofs.Common.{ℕ, List, IfOk, subst}
-use Rattle.kit_directives.specs.Found.{Finds}
+use Rattle.kit_directives.specs.Finding.{Finds}
 use Rattle.kit_directives.proofs.finding.find.Goals as goal
 
 pub returns : goal.returns

@@ -1,7 +1,7 @@
 -- What is left of the run's moments leads to its verdict.
 use Rattle.std.proofs.Common.{List, refl, subst, arith}
 use Rattle.rank_now.specs.declared.moment.Moment.{Moment}
-use Rattle.kit_directives.specs.Found.{IsLeftOf}
+use Rattle.kit_directives.specs.Finding.{IsLeftOf}
 use Rattle.kit_directives.proofs.Fewer.{left-short}
 use Rattle.kit_directives.proofs.finding.shorten.Goals as goal
 

@@ -1,7 +1,7 @@
 -- Each moment is needed so far, or is left out.
 use Rattle.std.proofs.Common.{List, subst, arith}
 use Rattle.rank_now.specs.declared.moment.Moment.{Moment}
-use Rattle.kit_directives.specs.Found.{HasOther}
+use Rattle.kit_directives.specs.Finding.{HasOther}
 use Rattle.kit_directives.proofs.Rounds.{one-more, led-out}
 use Rattle.kit_directives.proofs.reducing.leave_out.Goals as goal
 

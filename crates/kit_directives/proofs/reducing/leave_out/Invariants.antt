@@ -1,4 +1,4 @@
-use Rattle.kit_directives.specs.Found.{NeedsFirst}
+use Rattle.kit_directives.specs.Finding.{NeedsFirst}
 use Rattle.kit_directives.proofs.reducing.leave_out.Given as goal
 
 -- each moment so far is needed

@@ -1,6 +1,6 @@
 -- One round more, or none.
 use Rattle.std.proofs.Common.{length, arith, ap}
-use Rattle.kit_directives.specs.Found.{Whole}
+use Rattle.kit_directives.specs.Finding.{Whole}
 use Rattle.kit_directives.proofs.Rounds.{one-round, some-leaves, none-leaves, some-fewer}
 use Rattle.kit_directives.proofs.reducing.reduce.Goals as goal
 

@@ -1,6 +1,6 @@
 use Rattle.std.proofs.Common.{◌≤◌, length}
 use Rattle.kit_directives.specs.Directed.{LeadsTo}
-use Rattle.kit_directives.specs.Found.{IsLeftOf}
+use Rattle.kit_directives.specs.Finding.{IsLeftOf}
 use Rattle.kit_directives.proofs.reducing.reduce.Given as goal
 
 -- what is left so far leads to the verdict

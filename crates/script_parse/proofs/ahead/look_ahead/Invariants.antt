@@ -1,6 +1,6 @@
 use Rattle.std.proofs.Common.{◌≡◌, ◌++◌, List, ℕ}
 use Rattle.pct_ask.specs.Lines.{lines_of}
-use Rattle.script_parse.specs.Ahead.{HasSeen}
+use Rattle.script_parse.specs.Lookahead.{HasSeen}
 use Rattle.script_parse.proofs.ahead.look_ahead.Given as goal
 
 -- what is known is what the lines so far tell

@@ -1,5 +1,5 @@
 use Rattle.std.proofs.Common.{refl, sym, ◌∙◌}
-use Rattle.script_parse.specs.Ahead.{place_ahead}
+use Rattle.script_parse.specs.Lookahead.{place_ahead}
 use Rattle.script_parse.specs.Seen.{all_seen}
 use Rattle.script_parse.specs.SeenForms.{seen_form}
 use Rattle.script_parse.specs.SeenParts.{seen_reader}

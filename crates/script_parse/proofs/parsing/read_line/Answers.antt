@@ -3,7 +3,7 @@ use Rattle.std.specs.Prelude.{◌==◌, IfOk}
 use Rattle.pct_ask.specs.Tokens.{tokens_of}
 use Rattle.script_tree.specs.declared.fault.ScriptFault.{ScriptFault}
 use Rattle.script_parse.specs.Part.{Part}
-use Rattle.script_parse.specs.Ahead.{place_ahead}
+use Rattle.script_parse.specs.Lookahead.{place_ahead}
 use Rattle.script_parse.specs.Seen.{all_seen}
 use Rattle.script_parse.specs.States.{seen_state, seen_step}
 use Rattle.script_parse.specs.Reading.{bytes_fault}

@@ -1,6 +1,6 @@
 use Rattle.std.proofs.Common.{length, sym, ap, ◌∙◌, arith}
 use Rattle.pct_ask.specs.Lines.{lines_of}
-use Rattle.script_parse.specs.Ahead.{place_ahead}
+use Rattle.script_parse.specs.Lookahead.{place_ahead}
 use Rattle.script_parse.specs.SeenParts.{seen_reader}
 use Rattle.script_parse.specs.States.{seen_state, seen_step}
 use Rattle.script_parse.proofs.ReadSteps.{bad_read, next_read, all_read, end_fits}

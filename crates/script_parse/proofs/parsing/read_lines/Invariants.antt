@@ -1,6 +1,6 @@
 use Rattle.std.proofs.Common.{◌≡◌, ◌+◌, length, None}
 use Rattle.pct_ask.specs.Lines.{lines_of}
-use Rattle.script_parse.specs.Ahead.{place_ahead}
+use Rattle.script_parse.specs.Lookahead.{place_ahead}
 use Rattle.script_parse.specs.Reading.{script_from}
 use Rattle.script_parse.specs.States.{seen_state}
 use Rattle.script_parse.proofs.parsing.read_lines.Given as goal

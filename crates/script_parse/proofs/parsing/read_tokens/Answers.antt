@@ -1,6 +1,6 @@
 use Rattle.std.proofs.Common.{◌≡◌, ℕ, Option, Some, sym, ap, subst}
 use Rattle.std.specs.Prelude.{◌==◌, IfOk}
-use Rattle.script_parse.specs.Ahead.{place_ahead}
+use Rattle.script_parse.specs.Lookahead.{place_ahead}
 use Rattle.script_parse.specs.Seen.{all_seen}
 use Rattle.script_parse.specs.SeenParts.{seen_reader}
 use Rattle.script_parse.specs.States.{seen_state, seen_step}

@@ -4,8 +4,8 @@ use Rattle.std.proofs.Math.ListN.{length-map}
 use Rattle.script_tree.specs.Lines.{is_blank_line}
 use Rattle.script_parse.specs.Seen.{seen, all_seen}
 use Rattle.script_parse.proofs.AheadSteps.{no_tokens, plain_seen, thread_seen, blank_by, cut_blank}
-use Rattle.script_parse.proofs.ahead.Ahead.see.Goals as goal
-use Rattle.script_parse.proofs.ahead.Ahead.see.Goals.{then-self, else-self, After-begun_by}
+use Rattle.script_parse.proofs.ahead.Lookahead.see.Goals as goal
+use Rattle.script_parse.proofs.ahead.Lookahead.see.Goals.{then-self, else-self, After-begun_by}
 
 -- what three facts about a success tell of it
 joined : {X E : Type 0} {P Q R S : Type 0} (r : Result X E) → (P → Q → R → S) → OnOk r P → OnOk r Q

@@ -11,9 +11,9 @@ use Rattle.choices.specs.Orders.{EndsIn}
 use Rattle.directive.specs.declared.directive.Directive.{Directive}
 use Rattle.kit_runs.specs.Runs.{IsFileOf}
 use Rattle.kit_directives.specs.Directed.{IsDirectedFile, LeadsTo}
-use Rattle.kit_directives.specs.declared.finding.Found.{Found}
-use Rattle.kit_directives.specs.declared.finding.Found.TheVariants.{Fails, Passes}
-use Rattle.kit_directives.specs.declared.reducing.Short.{Short}
+use Rattle.kit_directives.specs.declared.finding.Finding.{Finding}
+use Rattle.kit_directives.specs.declared.finding.Finding.TheVariants.{Fails, Passes}
+use Rattle.kit_directives.specs.declared.reducing.ShortMoments.{ShortMoments}
 
 -- a run of the moments has another verdict
 pub record HasOther (deal : Deal) (order : List ℕ) (limit : ℕ) (verdict : Verdict)
@@ -34,7 +34,7 @@ pub data IsLeftOf {X : Type 0} : List X → List X → Type 0 where
       → IsLeftOf items (remove left place)
 
 -- what one round finds: one moment fewer that has the verdict, or that each is needed
-abbrev pub Leaves : Deal → List ℕ → ℕ → Verdict → List Moment → Option Short → Type 0
+abbrev pub Leaves : Deal → List ℕ → ℕ → Verdict → List Moment → Option ShortMoments → Type 0
 Leaves deal order limit verdict moments None =
     NeedsFirst deal order limit verdict moments (length moments)
 Leaves deal order limit verdict moments (Some short) =
@@ -43,7 +43,7 @@ Leaves deal order limit verdict moments (Some short) =
 
 -- what all rounds leave
 pub record IsReduced (deal : Deal) (order : List ℕ) (limit : ℕ) (verdict : Verdict)
-    (moments : List Moment) (short : Short) : Type 0 where
+    (moments : List Moment) (short : ShortMoments) : Type 0 where
   pub left : IsLeftOf moments short.moments
   pub leads : LeadsTo deal order limit verdict short.moments short.steps
   pub needed : NeedsFirst deal order limit verdict short.moments (length short.moments)
@@ -72,7 +72,7 @@ pub record IsPass (deal : Deal) (order points : List ℕ) (limit steps : ℕ) : 
   pub number : steps ≡ length made.events
 
 -- what each answer says
-abbrev pub Finds : Deal → List ℕ → List ℕ → ℕ → Found → Type 0
+abbrev pub Finds : Deal → List ℕ → List ℕ → ℕ → Finding → Type 0
 Finds deal order points limit (Fails directive steps) =
     IsFound deal order points limit directive steps
 Finds deal order points limit (Passes steps) = IsPass deal order points limit steps
