@@ -1,6 +1,5 @@
 -- What is known of the verdicts that numbers say is known of the runs.
-use Rattle.std.proofs.Common.{◌≡◌, ◌↔◌, List, [], ◌∷◌, Option, Some, None, refl, sym, subst, ap}
-use Rattle.std.proofs.Common.{◌∙◌}
+use Rattle.std.proofs.Common.{◌≡◌, List, [], ◌∷◌, Option, Some, None, subst}
 use Rattle.std.specs.Prelude.{All}
 use Rattle.std.specs.Option.{option_map, option_and_then}
 use Rattle.std.proofs.lemmas.List.Elements.{All-nil, All-cons, All-head, All-tail}
@@ -12,7 +11,7 @@ use Rattle.c_values.specs.declared.row.PctRow.{PctRow}
 use Rattle.c_values.specs.Outcomes.{verdict_said}
 use Rattle.c_values.specs.Rows.{row_said}
 use Rattle.c_values.specs.Told.{all_said}
-use Rattle.c_texts.specs.Known.{SaysKnown, IsKnown}
+use Rattle.c_texts.specs.Known.{IsKnown}
 
 -- the first run is what the first numbers say, and the others are what the others say
 parted : (one : Option Row) (later : Option (List Row)) (row : Row) (rows : List Row)

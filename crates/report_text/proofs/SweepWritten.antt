@@ -3,14 +3,14 @@ use Rattle.std.specs.Prelude.{codes, decimal, ◌<◌, length}
 use Rattle.std.specs.List.{All}
 use Rattle.std.proofs.Common.{◌≡◌, ℕ, ◌≤◌, false, List, [], ◌∷◌, map, refl, ap, ◌∙◌, arith}
 use Rattle.std.proofs.lemmas.List.Elements.{All-head, All-tail}
-use Rattle.serde_json.specs.Data.{Data, number, unsigned, string, array, depth, items_depth}
+use Rattle.serde_json.specs.Data.{number, unsigned, string, array, depth, items_depth}
 use Rattle.serde_json.specs.Read.{max_depth}
 use Rattle.serde_json.specs.View.{items_of}
 use Rattle.serde_json.specs.Written.{compact_text, has_float, items_have_float}
 use Rattle.pct_ask.specs.NameLists.{NameLists, AreNames}
 use Rattle.pct_ask.specs.VerdictText.{thread_name, verdict_text}
 use Rattle.report_text.specs.Report.{IsTellable}
-use Rattle.report_text.specs.Json.{string_text, array_text, object_text, member_text}
+use Rattle.report_text.specs.Json.{array_text, object_text, member_text}
 use Rattle.report_text.specs.SweepJson.{name_text, swept_text, sweep_object}
 use Rattle.report_text.specs.SweepData.{name_data, point_data, swept_data, sweep_data}
 use Rattle.report_text.specs.declared.frame.Frame.{Frame}

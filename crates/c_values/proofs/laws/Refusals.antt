@@ -1,6 +1,6 @@
 -- What a call refuses because another one did.
 use Rattle.std.proofs.Common.{◌≡◌, sym, subst, ap, ◌∙◌}
-use Rattle.std.specs.Prelude.{Result, Ok, Err}
+use Rattle.std.specs.Prelude.{Result, Err}
 use Rattle.c_values.specs.Told.{Answers}
 use Rattle.c_values.specs.declared.refused.Refused.{Refused}
 use Rattle.c_values.specs.declared.refused.Refused.TheVariants.{Bad, NoMemory}

@@ -1,4 +1,4 @@
-use Rattle.std.proofs.Common.{subst, refl}
+use Rattle.std.proofs.Common.{subst}
 use Rattle.std.proofs.lemmas.Result.{err_from_is_err_and}
 use Rattle.pct_ask.specs.NameLists.{NameLists}
 use Rattle.failure_rank.proofs.Laws.{groups_have}

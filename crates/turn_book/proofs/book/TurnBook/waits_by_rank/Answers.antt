@@ -1,4 +1,4 @@
-use Rattle.std.proofs.Common.{◌≡◌, ◌<◌, ℕ, Some, None, length, ap, subst, ◌∙◌, arith, vec_capacity}
+use Rattle.std.proofs.Common.{◌≡◌, ◌<◌, Some, None, length, ap, subst, ◌∙◌, arith, vec_capacity}
 use Rattle.std.proofs.lemmas.Bool.{ltb-true}
 use Rattle.policy_pick.specs.declared.chance.Pick.TheVariants.{Waits}
 use Rattle.policy_pick.specs.Plan.{GoesByRank}
