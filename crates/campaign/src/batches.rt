@@ -4,7 +4,7 @@ ghost use Rattle.campaign.specs.Batches.{setup_of_campaign, IsSeedRun, HasRowsBe
 
 use crate::common::Campaign;
 use pct_ask::Row;
-use policy_pick::Pct;
+use policy_pick::{Pct, Priorities};
 use priority_draw::Words;
 use script_body::ScriptBody;
 use script_run::Batch;
@@ -35,7 +35,8 @@ impl<'a> Batch for Campaign<'a> {
         let order = words.draw_order(alloc, self.script.deal.threads)?;
         let points = words.draw_points(alloc, self.steps.steps(), self.depth.points())?;
         let (order, points) = (order.as_slice(), points.as_slice());
-        self.script.test_by_points(alloc, order, points, self.limit)
+        self.script
+            .test_by_points(alloc, &Priorities { order, points }, self.limit)
     }
 
     fn take(

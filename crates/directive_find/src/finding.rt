@@ -12,7 +12,7 @@ use crate::reducing::{Short, reduce};
 use choices::moments_of;
 use pct_ask::{Deal, Limit, Verdict};
 use pct_outside::Gate;
-use policy_pick::MomentList;
+use policy_pick::{MomentList, Priorities};
 use script_code::Code;
 use script_run::ReadyScript;
 use std::alloc::{AllocError as NoMemory, Global};
@@ -61,7 +61,8 @@ pub fn find<R: Threads + Wait + Sync, G: Gate>(
 {
     let ready = ReadyScript { code, deal };
     let limit = Limit::new(limit);
-    let whole = ready.run_by_points(rt, alloc, order, points, limit, Serve::Threads, gate)?;
+    let priorities = Priorities { order, points };
+    let whole = ready.run_by_points(rt, alloc, &priorities, limit, Serve::Threads, gate)?;
     let steps = whole.events.len() as u32;
     let verdict = whole.verdict;
     if verdict.is(&Verdict::Passed) {

@@ -9,7 +9,7 @@ ghost use Rattle.pct_ask.specs.declared.limits.TheConstants.{MAX_POINTS};
 
 use pct_ask::{Limit, Verdict};
 use pct_outside::Gate;
-use policy_pick::{Moment, MomentList};
+use policy_pick::{DirectedPriorities, Moment, MomentList};
 use script_run::ReadyScript;
 use std::alloc::{AllocError as NoMemory, Global};
 use std::sync::Wait;
@@ -39,24 +39,26 @@ fn leave_out<R: Threads + Wait + Sync, G: Gate>(
     rt: &R,
     alloc: Global,
     ready: &ReadyScript<'_>,
-    order: &[u32],
-    moments: &[Moment],
+    priorities: &DirectedPriorities<'_>,
     verdict: &Verdict,
     limit: Limit,
     gate: &G,
 ) -> Result<Option<Short>, NoMemory>
-    requires order { IsOrder order.now }
-    requires whole { length order.now ≡ ready.now.deal.now.threads }
-    requires few_moments { length moments.now ≤ MAX_POINTS }
+    requires { length priorities.now.order.now ≡ ready.now.deal.now.threads }
     ensures leaves { IfOk result (Leaves ready.now.deal.now
-        (bodies_of_code (listing ready.now.code.now)) order.now limit verdict.now moments.now) }
+        (bodies_of_code (listing ready.now.code.now)) priorities.now.order.now limit verdict.now
+        priorities.now.moments.now) }
     ensures fewer { IfOk result (λ left.
-        IfSome left (λ short. length short.moments < length moments.now)) }
+        IfSome left (λ short. length short.moments < length priorities.now.moments.now)) }
 {
+    let DirectedPriorities { order, moments, .. } = *priorities;
     for place in 0..moments.len() {
         let rest = without(alloc, moments, place)?;
-        let left = rest.as_slice();
-        let whole = ready.run_by_moments(rt, alloc, order, left, limit, Serve::Threads, gate)?;
+        let left = DirectedPriorities {
+            order,
+            moments: rest.as_slice(),
+        };
+        let whole = ready.run_by_moments(rt, alloc, &left, limit, Serve::Threads, gate)?;
         if whole.verdict.is(verdict) {
             let steps = step_count(&whole.events, limit);
             return Ok(Some(Short {
@@ -93,8 +95,10 @@ pub fn reduce<R: Threads + Wait + Sync, G: Gate>(
         rt,
         alloc,
         ready,
-        order,
-        short.moments.as_slice(),
+        &DirectedPriorities {
+            order,
+            moments: short.moments.as_slice(),
+        },
         verdict,
         limit,
         gate,

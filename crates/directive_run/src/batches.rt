@@ -8,7 +8,7 @@ use crate::answers::{Certified, CertifyRow, CertifyRows};
 use crate::claim::Claim;
 use crate::judging::{Tested, test_run};
 use choices::low_order_at;
-use policy_pick::DirectedPolicy;
+use policy_pick::{DirectedPolicy, DirectedPriorities};
 use script_body::ScriptBody;
 use script_run::Batch;
 use std::alloc::{AllocError as NoMemory, Global};
@@ -40,7 +40,7 @@ impl<'a> Batch for Claim<'a, '_> {
         let order = low_order_at(alloc, self.script.deal.threads, self.directive.low, place)?;
         let (order, moments) = (order.as_slice(), self.directive.events.as_slice());
         self.script
-            .test_by_moments(alloc, order, moments, self.limit)
+            .test_by_moments(alloc, &DirectedPriorities { order, moments }, self.limit)
     }
 
     fn take(

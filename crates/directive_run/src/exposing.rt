@@ -13,6 +13,7 @@ use choices::points_of;
 use directive::Directive;
 use pct_ask::{Deal, Limit};
 use pct_outside::Gate;
+use policy_pick::DirectedPriorities;
 use script_code::Code;
 use script_run::ReadyScript;
 use std::alloc::{AllocError as NoMemory, Global};
@@ -48,7 +49,8 @@ pub fn expose<R: Threads + Wait + Sync, G: Gate>(
     let moments = directive.events.as_slice();
     let ready = ReadyScript { code, deal };
     let limit = Limit::new(limit);
-    let whole = ready.run_by_moments(rt, alloc, order, moments, limit, Serve::Threads, gate)?;
+    let priorities = DirectedPriorities { order, moments };
+    let whole = ready.run_by_moments(rt, alloc, &priorities, limit, Serve::Threads, gate)?;
     let many = whole.events.len() as u32;
     if many > steps {
         return Ok(Exposed::TooLong { steps: many });

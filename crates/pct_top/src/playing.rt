@@ -11,6 +11,7 @@ ghost use Rattle.pct_ask.specs.declared.limits.TheConstants.{MAX_STEPS};
 use crate::run_plan::RunPlan;
 use crate::test::ReadyTest;
 use pct_outside::Gate;
+use policy_pick::Priorities;
 use script_run::ReadyScript;
 use std::alloc::{AllocError as NoMemory, Global};
 use std::sync::Wait;
@@ -44,5 +45,5 @@ pub fn play<R: Threads + Wait + Sync, G: Gate>(
     let points = plan.points.as_slice();
     let limit = plan.limit;
     let _most = limit.steps(); // so many steps at most
-    ready.run_by_points(rt, alloc, order, points, limit, serve, gate)
+    ready.run_by_points(rt, alloc, &Priorities { order, points }, limit, serve, gate)
 }

@@ -21,6 +21,7 @@ mod directed;
 mod listed;
 mod pct;
 mod policy;
+mod priorities;
 mod walk;
 
 pub use chance::{Chance, Pick, is_open};
@@ -29,6 +30,7 @@ pub use listed::Listed;
 pub use pct::Pct;
 use pct_ask::Sequence;
 pub use policy::Policy;
+pub use priorities::{DirectedPriorities, Priorities};
 pub use rank_now::Moment;
 
 /// Moments, the one of lowest value first.

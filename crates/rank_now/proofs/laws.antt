@@ -7,3 +7,5 @@ pub mod GivenOnce
 pub mod Orders
 -- a list of numbers below its length, none twice, is an order
 pub mod WholeOrders
+-- a list that is known to be an order is one
+pub mod KnownOrders

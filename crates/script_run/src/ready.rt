@@ -3,10 +3,9 @@
 ghost use Rattle.script_tree.specs.ScriptText.{ScriptText};
 ghost use Rattle.script_code.specs.Listing.{listing};
 ghost use Rattle.script_body.specs.Bodies.{AreOf};
-ghost use Rattle.pct_ask.specs.declared.limits.TheConstants.{MAX_POINTS};
 
 use pct_ask::{Deal, Limit};
-use policy_pick::{DirectedPolicy, Moment, Pct};
+use policy_pick::{DirectedPolicy, DirectedPriorities, Pct, Priorities};
 use script_body::{ScriptBody, bodies_of};
 use script_code::Code;
 use std::alloc::{AllocError as NoMemory, Global};
@@ -21,8 +20,7 @@ pub struct ReadyScript<'a> {
 }
 
 impl<'a> ReadyScript<'a> {
-    ghost use Rattle.std.specs.Prelude.{◌≡◌, ◌≤◌, length, IfOk};
-    ghost use Rattle.rank_now.specs.Order.{IsOrder};
+    ghost use Rattle.std.specs.Prelude.{◌≡◌, length, IfOk};
     ghost use Rattle.policy_pick.specs.Kept.{points_plan, PointsStand, events_plan, EventsStand};
     ghost use Rattle.script_body.specs.BodyPosts.{pending_of_body};
     ghost use Rattle.worker_run.specs.Tests.{IsTest};
@@ -34,22 +32,19 @@ impl<'a> ReadyScript<'a> {
     pub fn test_by_points(
         &self,
         alloc: Global,
-        order: &[u32],
-        points: &[u32],
+        priorities: &Priorities<'_>,
         limit: Limit,
     ) -> Result<Test<Pct, ScriptBody<'a>>, NoMemory>
-        requires order { IsOrder order.now }
-        requires whole { length order.now ≡ self.now.deal.now.threads }
-        requires few_points { length points.now ≤ MAX_POINTS }
+        requires whole { length priorities.now.order.now ≡ self.now.deal.now.threads }
         ensures asked { IfOk result (λ test. IsTest pending_of_body points_plan PointsStand test) }
         // Its run is that of the order and the points.
         ensures run { IfOk result (Tries pending_of_body points_plan
             (IsRunByPoints self.now.deal.now (bodies_of_code (listing self.now.code.now))
-            order.now points.now limit)) }
+            priorities.now.order.now priorities.now.points.now limit)) }
     {
         let bodies = bodies_of(alloc, self.code)?;
         let own = self.deal.copy(alloc)?;
-        Test::by_points(alloc, own, order, points, limit, bodies)
+        Test::by_points(alloc, own, priorities, limit, bodies)
     }
 
     /// The same with moments in the place of change points: a thread is lowered after its own step
@@ -57,21 +52,18 @@ impl<'a> ReadyScript<'a> {
     pub fn test_by_moments(
         &self,
         alloc: Global,
-        order: &[u32],
-        moments: &[Moment],
+        priorities: &DirectedPriorities<'_>,
         limit: Limit,
     ) -> Result<Test<DirectedPolicy, ScriptBody<'a>>, NoMemory>
-        requires order { IsOrder order.now }
-        requires whole { length order.now ≡ self.now.deal.now.threads }
-        requires few_moments { length moments.now ≤ MAX_POINTS }
+        requires whole { length priorities.now.order.now ≡ self.now.deal.now.threads }
         ensures asked { IfOk result (λ test. IsTest pending_of_body events_plan EventsStand test) }
         // Its run is the directed run of the order and the moments.
         ensures run { IfOk result (Tries pending_of_body events_plan
             (IsRunByMoments self.now.deal.now (bodies_of_code (listing self.now.code.now))
-            order.now moments.now limit)) }
+            priorities.now.order.now priorities.now.moments.now limit)) }
     {
         let bodies = bodies_of(alloc, self.code)?;
         let own = self.deal.copy(alloc)?;
-        Test::by_moments(alloc, own, order, moments, limit, bodies)
+        Test::by_moments(alloc, own, priorities, limit, bodies)
     }
 }

@@ -3,7 +3,6 @@
 
 ghost use Rattle.std.specs.Prelude.{◌≡◌, ◌≤◌, length, IfOk, Some};
 ghost use Rattle.pct_ask.specs.declared.verdict.Outcome.{Outcome};
-ghost use Rattle.rank_now.specs.Order.{IsOrder};
 ghost use Rattle.policy_pick.specs.Plan.{ByPoints};
 ghost use Rattle.script_tree.specs.ScriptText.{ScriptText};
 ghost use Rattle.script_code.specs.Listing.{listing};
@@ -12,12 +11,11 @@ ghost use Rattle.worker_run.specs.Run.{run, directed_run};
 ghost use Rattle.worker_run.specs.Played.{IsPlayed};
 ghost use Rattle.worker_run.specs.Tests.{IsTest, IsRunOf};
 ghost use Rattle.script_run.specs.Ready.{bodies_of_code};
-ghost use Rattle.pct_ask.specs.declared.limits.TheConstants.{MAX_POINTS};
 
 use crate::ready::ReadyScript;
 use pct_ask::{Body, Limit};
 use pct_outside::Gate;
-use policy_pick::{Moment, Policy};
+use policy_pick::{DirectedPriorities, Policy, Priorities};
 use std::alloc::{AllocError as NoMemory, Global};
 use std::sync::Wait;
 use std::thread::Threads;
@@ -59,30 +57,30 @@ impl ReadyScript<'_> {
         &self,
         rt: &R,
         alloc: Global,
-        order: &[u32],
-        points: &[u32],
+        priorities: &Priorities<'_>,
         limit: Limit,
         serve: Serve,
         gate: &G,
     ) -> Result<WholeRun, NoMemory>
-        requires order { IsOrder order.now }
-        requires whole { length order.now ≡ self.now.deal.now.threads }
-        requires few_points { length points.now ≤ MAX_POINTS }
+        requires whole { length priorities.now.order.now ≡ self.now.deal.now.threads }
         ensures code { IfOk result (λ whole. run self.now.deal.now
-            (bodies_of_code (listing self.now.code.now)) order.now points.now limit
-            ≡ Some (whole.events, whole.verdict)) }
+            (bodies_of_code (listing self.now.code.now)) priorities.now.order.now
+            priorities.now.points.now limit ≡ Some (whole.events, whole.verdict)) }
         ensures run { (script : ScriptText)
             → AreOf script (listing self.now.code.now) self.now.deal.now
-            → IfOk result (λ whole. run self.now.deal.now (bodies_of script) order.now points.now
-            limit ≡ Some (whole.events, whole.verdict)) }
+            → IfOk result (λ whole. run self.now.deal.now (bodies_of script)
+            priorities.now.order.now priorities.now.points.now limit
+            ≡ Some (whole.events, whole.verdict)) }
         // The same, as the run that is played by these priorities.
         ensures played { (script : ScriptText)
             → AreOf script (listing self.now.code.now) self.now.deal.now
-            → IfOk result (λ whole. IsPlayed (ByPoints order.now points.now) self.now.deal.now
-            (bodies_of script) limit whole.events (Outcome.Verdict whole.verdict)) }
+            → IfOk result (λ whole.
+            IsPlayed (ByPoints priorities.now.order.now priorities.now.points.now)
+            self.now.deal.now (bodies_of script) limit whole.events
+            (Outcome.Verdict whole.verdict)) }
         ensures few { IfOk result (λ whole. length whole.events ≤ limit) }
     {
-        let test = self.test_by_points(alloc, order, points, limit)?;
+        let test = self.test_by_points(alloc, priorities, limit)?;
         let played = run_test(rt, alloc, test, serve, gate)?;
         Ok(played.into_whole())
     }
@@ -93,25 +91,23 @@ impl ReadyScript<'_> {
         &self,
         rt: &R,
         alloc: Global,
-        order: &[u32],
-        moments: &[Moment],
+        priorities: &DirectedPriorities<'_>,
         limit: Limit,
         serve: Serve,
         gate: &G,
     ) -> Result<WholeRun, NoMemory>
-        requires order { IsOrder order.now }
-        requires whole { length order.now ≡ self.now.deal.now.threads }
-        requires few_moments { length moments.now ≤ MAX_POINTS }
+        requires whole { length priorities.now.order.now ≡ self.now.deal.now.threads }
         ensures code { IfOk result (λ whole. directed_run self.now.deal.now
-            (bodies_of_code (listing self.now.code.now)) order.now moments.now limit
-            ≡ Some (whole.events, whole.verdict)) }
+            (bodies_of_code (listing self.now.code.now)) priorities.now.order.now
+            priorities.now.moments.now limit ≡ Some (whole.events, whole.verdict)) }
         ensures directed { (script : ScriptText)
             → AreOf script (listing self.now.code.now) self.now.deal.now
-            → IfOk result (λ whole. directed_run self.now.deal.now (bodies_of script) order.now
-            moments.now limit ≡ Some (whole.events, whole.verdict)) }
+            → IfOk result (λ whole. directed_run self.now.deal.now (bodies_of script)
+            priorities.now.order.now priorities.now.moments.now limit
+            ≡ Some (whole.events, whole.verdict)) }
         ensures few { IfOk result (λ whole. length whole.events ≤ limit) }
     {
-        let test = self.test_by_moments(alloc, order, moments, limit)?;
+        let test = self.test_by_moments(alloc, priorities, limit)?;
         let played = run_test(rt, alloc, test, serve, gate)?;
         Ok(played.into_whole())
     }

@@ -9,7 +9,7 @@ use Rattle.script_body.specs.declared.body.ScriptBody.{ScriptBody}
 use Rattle.worker_run.specs.declared.batch.Test.{Test}
 use Rattle.script_run.specs.Tests.{Tries, IsRunByPoints}
 use Rattle.sweep.specs.declared.choice.Choice.{Choice}
-use Rattle.sweep.specs.declared.next.Next.{Next}
+use Rattle.sweep.specs.declared.next.NextRuns.{NextRuns}
 use Rattle.sweep.specs.Rows.{Setup}
 use Rattle.sweep.specs.Batches.{setup_of_sweep, IsChoiceAt, IsRunAt, IsRunOfNext}
 
@@ -34,7 +34,8 @@ choice-tried setup place choice (Ok test) order points at ordered pointed tries 
 choice-tried setup place choice (Err e) order points at ordered pointed tries = tt
 
 -- the run at the place is that of the number at which the place stands
-numbered : {E : Type 0} (next : Next) (i place : ℕ) (made : Result (Test PointsKept ScriptBody) E)
+numbered : {E : Type 0} (next : NextRuns) (i place : ℕ)
+    (made : Result (Test PointsKept ScriptBody) E)
     → i < length next.ahead.now.places.items
     → place ≡ get_or next.ahead.now.places.items i place
     → IfOk made (Tries pending_of_body points_plan (IsRunAt (setup_of_sweep next.sweep.now) place))
@@ -46,14 +47,15 @@ numbered next i place (Ok test) within is tries = λ played ran other at.
     subst (λ p. IsRunAt (setup_of_sweep next.sweep.now) p played) (is ∙ same) (tries played ran)
 numbered next i place (Err e) within is tries = tt
 
-pub next-tried : {E : Type 0} (next : Next) (i place : ℕ) (choice : Choice)
+pub next-tried : {E : Type 0} (next : NextRuns) (i place : ℕ) (choice : Choice)
     (made : Result (Test PointsKept ScriptBody) E) (order points : List ℕ)
     → i < length next.ahead.now.places.items
     → place ≡ get_or next.ahead.now.places.items i place
     → IsChoiceAt (setup_of_sweep next.sweep.now) place choice → order ≡ choice.order
     → points ≡ choice.points
     → IfOk made (Tries pending_of_body points_plan
-    (IsRunByPoints (setup_of_sweep next.sweep.now).deal (setup_of_sweep next.sweep.now).bodies order points
+    (IsRunByPoints (setup_of_sweep next.sweep.now).deal (setup_of_sweep next.sweep.now).bodies order
+    points
     next.sweep.now.limit)) → IfOk made (Tries pending_of_body points_plan (IsRunOfNext next i))
 next-tried next i place choice made order points within is at ordered pointed tries =
     numbered next i place made within is

@@ -15,7 +15,7 @@ use Rattle.sweep.specs.Weights.{weight, spread, often_in}
 use Rattle.sweep.specs.declared.common.Sweep.{Sweep}
 use Rattle.sweep.specs.declared.common.Reach.{Reach}
 use Rattle.sweep.specs.declared.next.Counts.{Counts}
-use Rattle.sweep.specs.declared.next.Next.{Next}
+use Rattle.sweep.specs.declared.next.NextRuns.{NextRuns}
 
 -- what the sweep's runs have in common
 abbrev pub setup_of_sweep : Sweep → Setup
@@ -65,12 +65,12 @@ AreAhead setup long from (place ∷ places) end =
 -- ---- the choices that come next
 
 -- the run of the one of this number among them
-abbrev pub IsRunOfNext : Next → ℕ → Played → Type 0
+abbrev pub IsRunOfNext : NextRuns → ℕ → Played → Type 0
 IsRunOfNext next i played = (place : ℕ) → slice_get next.ahead.now.places.items i ≡ Some place
     → IsRunAt (setup_of_sweep next.sweep.now) place played
 
 -- those before the one of this number are counted, and none was longer than the runs before them
-pub record HasCountedNext (next : Next) (counts : Counts) (i : ℕ) : Type 0 where
+pub record HasCountedNext (next : NextRuns) (counts : Counts) (i : ℕ) : Type 0 where
   pub same : counts.reach.longest ≡ next.before.longest
   pub from : next.before.place ≤ counts.reach.place
   pub ahead :
@@ -79,7 +79,7 @@ pub record HasCountedNext (next : Next) (counts : Counts) (i : ℕ) : Type 0 whe
   pub counted : HasCounted (setup_of_sweep next.sweep.now) counts.reach counts.tally
 
 -- some are counted, of which the last was longer
-pub record HasCountedLonger (next : Next) (counts : Counts) : Type 0 where
+pub record HasCountedLonger (next : NextRuns) (counts : Counts) : Type 0 where
   pub within : counts.reach.place ≤ next.sweep.now.choices
   pub goes_on : next.before.place < counts.reach.place
   pub counted : HasCounted (setup_of_sweep next.sweep.now) counts.reach counts.tally

@@ -9,11 +9,11 @@ ghost use Rattle.sweep.specs.Batches.{IsRunOfNext, HasCountedNext, HasCountedLon
 use crate::ahead::{choices_ahead, stands_for};
 use crate::choice::choice_at;
 use crate::common::{Reach, Sweep};
-use crate::next::{Counts, Next};
+use crate::next::{Counts, NextRuns};
 use failure_rank::Tally;
 use pct_ask::Row;
 use pct_outside::Gate;
-use policy_pick::Pct;
+use policy_pick::{Pct, Priorities};
 use script_body::ScriptBody;
 use script_run::{Batch, run_batch};
 use std::alloc::{AllocError as NoMemory, Global};
@@ -63,7 +63,7 @@ fn count_run(
     })
 }
 
-impl<'n> Batch for Next<'n> {
+impl<'n> Batch for NextRuns<'n> {
     type Policy = Pct;
 
     type Body = ScriptBody<'n>;
@@ -89,7 +89,7 @@ impl<'n> Batch for Next<'n> {
         let (order, points) = (choice.order.as_slice(), choice.points.as_slice());
         sweep
             .script
-            .test_by_points(alloc, order, points, sweep.limit)
+            .test_by_points(alloc, &Priorities { order, points }, sweep.limit)
     }
 
     fn take(
@@ -129,7 +129,7 @@ pub fn count_ahead<R: Threads + Wait + Sync, G: Gate>(
 {
     let before = counts.reach;
     let ahead = choices_ahead(alloc, sweep, before, most)?;
-    let next = Next {
+    let next = NextRuns {
         sweep,
         ahead: &ahead,
         before,

@@ -36,7 +36,7 @@ impl Counts {
 
 /// The choices whose runs come next, and how far the sweep has come before them.
 #[derive(Clone, Copy)]
-pub struct Next<'n> {
+pub struct NextRuns<'n> {
     pub sweep: &'n Sweep<'n>,
     pub ahead: &'n Ahead,
     pub before: Reach,

@@ -7,7 +7,7 @@ ghost use Rattle.script_run.specs.Tests.{IsRunByPoints};
 use crate::scripts::{ADDERS, FAILED, FIRST_OF_A, code_and_deal};
 use pct_ask::{Limit, Verdict};
 use pct_outside::OpenGate;
-use policy_pick::Pct;
+use policy_pick::{DirectedPriorities, Pct, Priorities};
 use script_body::ScriptBody;
 use script_run::{Batch, ReadyScript, run_batch};
 use std::alloc::{AllocError as NoMemory, Global};
@@ -44,8 +44,12 @@ impl<'a> Batch for Adders<'a> {
     ghost answers = { λ adders taken verdict. Unit {0} };
 
     fn test(&self, alloc: Global, place: u32) -> Result<Test<Pct, ScriptBody<'a>>, NoMemory> {
+        let priorities = Priorities {
+            order: &[0, 1, 2],
+            points: &[4 - place],
+        };
         self.ready
-            .test_by_points(alloc, &[0, 1, 2], &[4 - place], Limit::new(100))
+            .test_by_points(alloc, &priorities, Limit::new(100))
     }
 
     fn take(
@@ -91,12 +95,19 @@ fn expect_failed<R: Threads + Wait + Abort + Sync>(
 ) -> Result<(), Fail> {
     let gate = OpenGate::new();
     let ready = adders.ready;
-    let order = [0, 1, 2];
+    let priorities = Priorities {
+        order: &[0, 1, 2],
+        points: &[1],
+    };
     let limit = Limit::new(100);
-    let run = ready.run_by_points(rt, alloc, &order, &[1], limit, serve, &gate)?;
+    let run = ready.run_by_points(rt, alloc, &priorities, limit, serve, &gate)?;
     assert_eq!(rt; run.verdict, FAILED);
     assert_eq!(rt; run.events.len(), 8);
-    let directed = ready.run_by_moments(rt, alloc, &order, &[FIRST_OF_A], limit, serve, &gate)?;
+    let priorities = DirectedPriorities {
+        order: &[0, 1, 2],
+        moments: &[FIRST_OF_A],
+    };
+    let directed = ready.run_by_moments(rt, alloc, &priorities, limit, serve, &gate)?;
     assert_eq!(rt; directed.verdict, FAILED);
     assert_eq!(rt; directed.events.as_slice(), run.events.as_slice());
     Ok(())

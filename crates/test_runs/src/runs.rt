@@ -13,7 +13,7 @@ use crate::samples::samples;
 use crate::steps::{FAILED, IN_ORDER, LOST_UPDATE};
 use pct_ask::{Event, Limit, Outcome, Verdict};
 use pct_outside::{Gate, OpenGate};
-use policy_pick::{Listed, Moment, Pct, Policy};
+use policy_pick::{DirectedPriorities, Listed, Moment, Pct, Policy, Priorities};
 use std::alloc::{AllocError as NoMemory, Global};
 use std::process::Abort;
 use std::sync::Wait;
@@ -112,8 +112,10 @@ fn loses_an_update(rt: HostRuntime) -> Result<(), Fail> {
         &rt,
         rt.alloc(),
         deal,
-        &[0, 1, 2],
-        &[1],
+        &Priorities {
+            order: &[0, 1, 2],
+            points: &[1],
+        },
         Limit::new(10_000),
         bodies,
         &gate,
@@ -133,8 +135,10 @@ fn loses_an_update_by_a_moment(rt: HostRuntime) -> Result<(), Fail> {
         &rt,
         rt.alloc(),
         deal,
-        &[0, 1, 2],
-        &FIRST_STEP,
+        &DirectedPriorities {
+            order: &[0, 1, 2],
+            moments: &FIRST_STEP,
+        },
         Limit::new(10_000),
         bodies,
         &gate,

@@ -12,7 +12,7 @@ use crate::calls::{ADDERS, Given, IN_ORDER, SOUND, SUM, expect_gated};
 use pct_ask::{Ask, Body, Deal, Event, Limit, Outcome, Post, Verdict};
 use pct_outside::{Gate, OpenGate, PairGate};
 use pct_top::Status;
-use policy_pick::Pct;
+use policy_pick::{Pct, Priorities};
 use script_body::ScriptBody;
 use script_code::{Code, compile};
 use script_parse::parse;
@@ -133,7 +133,11 @@ fn looking_test<'c, 'g>(
         (λ test. IsTest (λ b. pending_of_body b.body) points_plan PointsStand test) }
 {
     let bodies = lookers(alloc, code, first_after, gate)?;
-    Test::by_points(alloc, deal, &[0, 1, 2], &[], Limit::new(10_000), bodies)
+    let priorities = Priorities {
+        order: &[0, 1, 2],
+        points: &[],
+    };
+    Test::by_points(alloc, deal, &priorities, Limit::new(10_000), bodies)
 }
 
 /// The steps are those of the order.

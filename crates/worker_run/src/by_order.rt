@@ -1,22 +1,19 @@
 // Whole runs: by an order of the threads, with change points or with moments in their place. A
 // verdict ends each of them.
-ghost use Rattle.std.specs.Prelude.{◌≡◌, ◌≤◌, length, map, IfOk, Some};
+ghost use Rattle.std.specs.Prelude.{◌≡◌, length, map, IfOk, Some};
 ghost use Rattle.pct_ask.specs.declared.verdict.Outcome.{Outcome};
 ghost use Rattle.pct_ask.specs.declared.verdict.Verdict.{Verdict};
 ghost use Rattle.pct_ask.specs.Objects.{sizes_of_deal};
 ghost use Rattle.pct_ask.specs.Bodies.{AreInRange};
-ghost use Rattle.rank_now.specs.Order.{IsOrder};
 ghost use Rattle.policy_pick.specs.Plan.{ByPoints, ByEvents};
 ghost use Rattle.worker_run.specs.Run.{run, directed_run};
 ghost use Rattle.worker_run.specs.Played.{IsPlayed};
-ghost use Rattle.pct_ask.specs.declared.limits.TheConstants.{MAX_POINTS};
 
 use crate::played::Played;
 use crate::run::run_threads;
 use pct_ask::{Body, Deal, EventList, Limit, Outcome, Verdict};
 use pct_outside::Gate;
-use policy_pick::{DirectedPolicy, Pct};
-use rank_now::Moment;
+use policy_pick::{DirectedPolicy, DirectedPriorities, Pct, Priorities};
 use std::alloc::{AllocError as NoMemory, Global};
 use std::sync::Wait;
 use std::thread::Threads;
@@ -73,25 +70,23 @@ pub fn run_by_points<R: Threads + Wait + Sync, B: Body, G: Gate>(
     rt: &R,
     alloc: Global,
     deal: Deal,
-    order: &[u32],
-    points: &[u32],
+    priorities: &Priorities<'_>,
     limit: Limit,
     bodies: Vec<B>,
     gate: &G,
 ) -> Result<WholeRun, NoMemory>
-    requires order { IsOrder order.now }
-    requires whole { length order.now ≡ deal.threads }
-    requires few_points { length points.now ≤ MAX_POINTS }
+    requires whole { length priorities.now.order.now ≡ deal.threads }
     requires bodies { length bodies.items ≡ deal.threads }
     requires in_range { AreInRange (sizes_of_deal deal) (map B.pending bodies.items) }
     ensures run { IfOk result (λ whole.
-        run deal (map B.pending bodies.items) order.now points.now limit
-        ≡ Some (whole.events, whole.verdict)) }
+        run deal (map B.pending bodies.items) priorities.now.order.now priorities.now.points.now
+        limit ≡ Some (whole.events, whole.verdict)) }
     // The same, as the run that is played by these priorities.
-    ensures played { IfOk result (λ whole. IsPlayed (ByPoints order.now points.now) deal
+    ensures played { IfOk result (λ whole.
+        IsPlayed (ByPoints priorities.now.order.now priorities.now.points.now) deal
         (map B.pending bodies.items) limit whole.events (Outcome.Verdict whole.verdict)) }
 {
-    let policy = Pct::of_order(alloc, order, points)?;
+    let policy = Pct::of_order(alloc, priorities.order, priorities.points)?;
     let played = run_threads(rt, alloc, deal, policy, limit.steps(), bodies, gate)?;
     Ok(played.into_whole())
 }
@@ -102,25 +97,23 @@ pub fn run_by_moments<R: Threads + Wait + Sync, B: Body, G: Gate>(
     rt: &R,
     alloc: Global,
     deal: Deal,
-    order: &[u32],
-    moments: &[Moment],
+    priorities: &DirectedPriorities<'_>,
     limit: Limit,
     bodies: Vec<B>,
     gate: &G,
 ) -> Result<WholeRun, NoMemory>
-    requires order { IsOrder order.now }
-    requires whole { length order.now ≡ deal.threads }
-    requires few_moments { length moments.now ≤ MAX_POINTS }
+    requires whole { length priorities.now.order.now ≡ deal.threads }
     requires bodies { length bodies.items ≡ deal.threads }
     requires in_range { AreInRange (sizes_of_deal deal) (map B.pending bodies.items) }
     ensures directed { IfOk result (λ whole.
-        directed_run deal (map B.pending bodies.items) order.now moments.now limit
-        ≡ Some (whole.events, whole.verdict)) }
+        directed_run deal (map B.pending bodies.items) priorities.now.order.now
+        priorities.now.moments.now limit ≡ Some (whole.events, whole.verdict)) }
     // The same, as the run that is played by these priorities.
-    ensures played { IfOk result (λ whole. IsPlayed (ByEvents order.now moments.now) deal
+    ensures played { IfOk result (λ whole.
+        IsPlayed (ByEvents priorities.now.order.now priorities.now.moments.now) deal
         (map B.pending bodies.items) limit whole.events (Outcome.Verdict whole.verdict)) }
 {
-    let policy = DirectedPolicy::of_order(alloc, order, moments)?;
+    let policy = DirectedPolicy::of_order(alloc, priorities.order, priorities.moments)?;
     let played = run_threads(rt, alloc, deal, policy, limit.steps(), bodies, gate)?;
     Ok(played.into_whole())
 }

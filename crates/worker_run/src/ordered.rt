@@ -1,17 +1,14 @@
 // Tests that are run with others under an order of their threads.
-ghost use Rattle.std.specs.Prelude.{◌≡◌, ◌≤◌, length, map, IfOk};
+ghost use Rattle.std.specs.Prelude.{◌≡◌, length, map, IfOk};
 ghost use Rattle.pct_ask.specs.Objects.{sizes_of_deal};
 ghost use Rattle.pct_ask.specs.Bodies.{AreInRange};
-ghost use Rattle.rank_now.specs.Order.{IsOrder};
 ghost use Rattle.policy_pick.specs.Plan.{ByPoints, ByEvents};
 ghost use Rattle.policy_pick.specs.Kept.{points_plan, PointsStand, events_plan, EventsStand};
 ghost use Rattle.worker_run.specs.Tests.{IsTest};
-ghost use Rattle.pct_ask.specs.declared.limits.TheConstants.{MAX_POINTS};
 
 use crate::batch::Test;
 use pct_ask::{Body, Deal, Limit};
-use policy_pick::{DirectedPolicy, Pct};
-use rank_now::Moment;
+use policy_pick::{DirectedPolicy, DirectedPriorities, Pct, Priorities};
 use std::alloc::{AllocError as NoMemory, Global};
 
 impl<B: Body> Test<Pct, B> {
@@ -19,24 +16,21 @@ impl<B: Body> Test<Pct, B> {
     pub fn by_points(
         alloc: Global,
         deal: Deal,
-        order: &[u32],
-        points: &[u32],
+        priorities: &Priorities<'_>,
         limit: Limit,
         bodies: Vec<B>,
     ) -> Result<Test<Pct, B>, NoMemory>
-        requires order { IsOrder order.now }
-        requires whole { length order.now ≡ deal.threads }
-        requires few_points { length points.now ≤ MAX_POINTS }
+        requires whole { length priorities.now.order.now ≡ deal.threads }
         requires bodies { length bodies.items ≡ deal.threads }
         requires in_range { AreInRange (sizes_of_deal deal) (map B.pending bodies.items) }
         ensures asked { IfOk result (λ test. IsTest B.pending points_plan PointsStand test) }
         ensures plan { IfOk result (λ test.
-            points_plan test.policy ≡ ByPoints order.now points.now) }
+            points_plan test.policy ≡ ByPoints priorities.now.order.now priorities.now.points.now) }
         ensures deal { IfOk result (λ test. test.deal ≡ deal) }
         ensures limit { IfOk result (λ test. test.limit ≡ limit) }
         ensures bodies { IfOk result (λ test. test.bodies ≡ bodies) }
     {
-        let policy = Pct::of_order(alloc, order, points)?;
+        let policy = Pct::of_order(alloc, priorities.order, priorities.points)?;
         Ok(Test {
             deal,
             policy,
@@ -51,24 +45,22 @@ impl<B: Body> Test<DirectedPolicy, B> {
     pub fn by_moments(
         alloc: Global,
         deal: Deal,
-        order: &[u32],
-        moments: &[Moment],
+        priorities: &DirectedPriorities<'_>,
         limit: Limit,
         bodies: Vec<B>,
     ) -> Result<Test<DirectedPolicy, B>, NoMemory>
-        requires order { IsOrder order.now }
-        requires whole { length order.now ≡ deal.threads }
-        requires few_moments { length moments.now ≤ MAX_POINTS }
+        requires whole { length priorities.now.order.now ≡ deal.threads }
         requires bodies { length bodies.items ≡ deal.threads }
         requires in_range { AreInRange (sizes_of_deal deal) (map B.pending bodies.items) }
         ensures asked { IfOk result (λ test. IsTest B.pending events_plan EventsStand test) }
         ensures plan { IfOk result (λ test.
-            events_plan test.policy ≡ ByEvents order.now moments.now) }
+            events_plan test.policy
+            ≡ ByEvents priorities.now.order.now priorities.now.moments.now) }
         ensures deal { IfOk result (λ test. test.deal ≡ deal) }
         ensures limit { IfOk result (λ test. test.limit ≡ limit) }
         ensures bodies { IfOk result (λ test. test.bodies ≡ bodies) }
     {
-        let policy = DirectedPolicy::of_order(alloc, order, moments)?;
+        let policy = DirectedPolicy::of_order(alloc, priorities.order, priorities.moments)?;
         Ok(Test {
             deal,
             policy,

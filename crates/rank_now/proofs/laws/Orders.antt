@@ -7,22 +7,28 @@ use Rattle.std.proofs.lemmas.Bool.Decides.{nat_tests}
 use Rattle.std.proofs.lemmas.List.{get_or-take, get_or_default, length-take}
 use Rattle.std.proofs.lemmas.List.Sums.{passes_at_first, fails_before_first}
 use Rattle.rank_now.specs.Rank.{place_in_order}
-use Rattle.rank_now.specs.Order.{IsOrder, IsFirstWrong}
+use Rattle.rank_now.specs.Order.{IsOrder, IsWrongAt, IsFirstWrong}
 
 -- a list with a wrong place is no order
-pub wrong_is_no_order : (order : List ℕ) (at : ℕ) → IsFirstWrong order at → IsOrder order → ⊥
-wrong_is_no_order order at wrong whole =
-    elim wrong.wrong [
-      | inl out ↦ omega (arith, whole.below at wrong.within, out)
+pub wrong_place_is_no_order : (order : List ℕ) (at : ℕ) → at < length order → IsWrongAt order at
+    → IsOrder order → ⊥
+wrong_place_is_no_order order at within wrong whole =
+    elim wrong [
+      | inl out ↦ omega (arith, whole.below at within, out)
       | inr named ↦
           let k = named.0 in
           let d = slice_index order at in
           let early : k < at = omega (arith, length-take at order, named.1) in
           let same : slice_index order k ≡ d =
-          get_or_default order k 0 d (omega (arith, wrong.within))
+          get_or_default order k 0 d (omega (arith, within))
           ∙ (sym (get_or-take at order k d early) ∙ named.2) in
-          whole.once k at early wrong.within same
+          whole.once k at early within same
     ]
+
+-- a list with a first wrong place is no order
+pub wrong_is_no_order : (order : List ℕ) (at : ℕ) → IsFirstWrong order at → IsOrder order → ⊥
+wrong_is_no_order order at wrong whole =
+    wrong_place_is_no_order order at wrong.within wrong.wrong whole
 
 -- the place of a thread, and that it stands there
 pub named : (order : List ℕ) → IsOrder order → (thread : ℕ) → thread < length order

@@ -67,7 +67,8 @@ returns g c = λ script of.
     (Events short.moments whole.verdict short.steps) in
     subst (B (bodies_of script)) c.new-limit.ensures
     (subst (λ bodies. B bodies c.new-limit.result) (code_bodies script code of.is_code)
-    (made-found deal (bodies_of_code code) order c.new-limit.result points whole.events whole.verdict
+    (made-found deal (bodies_of_code code) order c.new-limit.result points whole.events
+    whole.verdict
     c.in_ok-moments.moments short c.requires.order c.requires.whole c.requires.points
     c.in_ok-whole.ensures.few c.in_ok-whole.ensures.code
     (λ same. let told = c.is.ensures.1 same in let other = c.if-is.false in cc) all

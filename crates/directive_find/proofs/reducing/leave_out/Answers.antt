@@ -10,11 +10,13 @@ pub returns-then-is-clause-leaves : goal.returns-then-is-clause-leaves
 returns-then-is-clause-leaves g c =
     let ready = c.args.ready.now in
     let bodies = bodies_of_code (listing ready.code.now) in
-    left-out ready.deal.now bodies c.args.order.now c.args.limit c.args.verdict.now
-    c.args.moments.now c.in_ok-rest.rest c.loop-place.place c.in_ok-whole.whole.events
+    left-out ready.deal.now bodies c.args.priorities.now.order.now c.args.limit c.args.verdict.now
+    c.args.priorities.now.moments.now c.in_ok-rest.rest c.loop-place.place
+    c.in_ok-whole.whole.events
     c.in_ok-whole.whole.verdict
-    c.in_ok-rest.ensures (ap (λ es. directed_run ready.deal.now bodies c.args.order.now
-    es c.args.limit) (sym c.as_slice-left.ensures)
+    c.in_ok-rest.ensures (ap (λ es. directed_run ready.deal.now bodies
+    c.args.priorities.now.order.now
+    es c.args.limit) (sym c.as_slice.ensures)
     ∙ c.in_ok-whole.ensures.code)
     c.loop-place.invariant c.step_count-steps.result c.loop-place-test.true
     (c.is.ensures.0 c.if-is.true) c.step_count-steps.ensures
@@ -23,11 +25,13 @@ pub loop-place-preserved : goal.loop-place-preserved
 loop-place-preserved g c =
     let ready = c.args.ready.now in
     let bodies = bodies_of_code (listing ready.code.now) in
-    one-more ready.deal.now bodies c.args.order.now c.args.limit c.args.verdict.now
-    c.args.moments.now c.in_ok-rest.rest c.loop-place.place c.in_ok-whole.whole.events
+    one-more ready.deal.now bodies c.args.priorities.now.order.now c.args.limit c.args.verdict.now
+    c.args.priorities.now.moments.now c.in_ok-rest.rest c.loop-place.place
+    c.in_ok-whole.whole.events
     c.in_ok-whole.whole.verdict
-    c.in_ok-rest.ensures (ap (λ es. directed_run ready.deal.now bodies c.args.order.now
-    es c.args.limit) (sym c.as_slice-left.ensures)
+    c.in_ok-rest.ensures (ap (λ es. directed_run ready.deal.now bodies
+    c.args.priorities.now.order.now
+    es c.args.limit) (sym c.as_slice.ensures)
     ∙ c.in_ok-whole.ensures.code)
     c.loop-place.invariant
     (λ same. let told = c.is.ensures.1 same in let other = c.if-is.false in cc)

@@ -15,7 +15,8 @@ returns-then-many-steps g c = λ script of.
     too-long c.args.deal.now (bodies_of script) c.args.order.now c.as_slice-moments.result.now
     c.args.directive.now.events c.args.steps c.args.limit c.len-many.result
     c.in_ok-whole.whole.events c.in_ok-whole.whole.verdict c.as_slice-moments.ensures
-    (subst L c.new-limit.ensures (c.in_ok-whole.ensures.directed script of)) c.len-many.ensures c.if-many-steps.true
+    (subst L c.new-limit.ensures (c.in_ok-whole.ensures.directed script of)) c.len-many.ensures
+    c.if-many-steps.true
 
 pub returns : goal.returns
 returns g c = λ script of.
@@ -25,7 +26,8 @@ returns g c = λ script of.
     exposed c.args.deal.now (bodies_of script) c.args.order.now c.as_slice-moments.result.now
     c.args.directive.now.events c.args.steps c.args.limit c.in_ok-whole.whole.events
     c.in_ok-whole.whole.verdict c.in_ok-points.points c.into.result c.requires.some_steps
-    c.as_slice-moments.ensures (subst L c.new-limit.ensures (c.in_ok-whole.ensures.directed script of))
+    c.as_slice-moments.ensures
+    (subst L c.new-limit.ensures (c.in_ok-whole.ensures.directed script of))
     (omega (arith, c.len-many.ensures, c.if-many-steps.false))
     (c.in_ok-points.ensures ∙ ap (λ es.
     points_of (schedule_of es) c.args.steps c.as_slice-moments.result.now) c.as_slice.ensures)

@@ -2,8 +2,8 @@
 use Rattle.worker_run.proofs.laws.Orders.{declared_is_order}
 use Rattle.test_commands.proofs.runs.expect_failed.Goals as goal
 
-pub run_by_points-requires-clause-order : goal.run_by_points-requires-clause-order
-run_by_points-requires-clause-order g c κs within = declared_is_order 3
+pub invariant_of-priorities-clause-is_order : goal.invariant_of-priorities-clause-is_order
+invariant_of-priorities-clause-is_order g c = ∣ declared_is_order 3 ∣₁
 
-pub run_by_moments-requires-clause-order : goal.run_by_moments-requires-clause-order
-run_by_moments-requires-clause-order g c κs within = declared_is_order 3
+pub invariant_of-priorities-2-clause-is_order : goal.invariant_of-priorities-2-clause-is_order
+invariant_of-priorities-2-clause-is_order g c = ∣ declared_is_order 3 ∣₁

@@ -3,8 +3,8 @@ use Rattle.worker_run.proofs.laws.Orders.{declared_is_order}
 use Rattle.test_runs.proofs.Ranges.{samples-fit}
 use Rattle.test_runs.proofs.runs.loses_an_update.Goals as goal
 
-pub run_by_points-requires-clause-order : goal.run_by_points-requires-clause-order
-run_by_points-requires-clause-order g c = λ κs. declared_is_order 3
+pub invariant_of-run_by_points-clause-is_order : goal.invariant_of-run_by_points-clause-is_order
+invariant_of-run_by_points-clause-is_order g c = ∣ declared_is_order 3 ∣₁
 
 pub run_by_points-requires-clause-in_range : goal.run_by_points-requires-clause-in_range
 run_by_points-requires-clause-in_range g c = λ κs.

@@ -5,8 +5,8 @@ use Rattle.script_body.proofs.laws.ScriptBodies.{one_each, all_in_range}
 use Rattle.worker_run.proofs.laws.Orders.{declared_is_order}
 use Rattle.test_top.proofs.meetings.looking_test.Goals as goal
 
-pub by_points-requires-clause-order : goal.by_points-requires-clause-order
-by_points-requires-clause-order c = λ κs lives. declared_is_order 3
+pub invariant_of-priorities-clause-is_order : goal.invariant_of-priorities-clause-is_order
+invariant_of-priorities-clause-is_order c = ∣ declared_is_order 3 ∣₁
 
 pub by_points-requires-clause-bodies : goal.by_points-requires-clause-bodies
 by_points-requires-clause-bodies c = λ κs lives.

@@ -1,15 +1,10 @@
 -- The test's run is that of the order and the points that the seed draws.
 use Rattle.std.proofs.Common.{◌≡◌, ℕ, ◌+◌, ◌-◌, ◌*◌, ap, refl, subst, sym, ◌∙◌, arith}
-use Rattle.rank_now.specs.Order.{IsOrder}
 use Rattle.priority_draw.specs.Words.{words_later}
 use Rattle.priority_draw.specs.Drawing.{drawn_points, draw_of_seed}
 use Rattle.campaign.specs.Batches.{setup_of_campaign}
 use Rattle.campaign.proofs.Runs.{seed-tried}
 use Rattle.campaign.proofs.batches.CampaignBatch.test.Goals as goal
-
-pub test_by_points-requires-clause-order : goal.test_by_points-requires-clause-order
-test_by_points-requires-clause-order c =
-    subst IsOrder (sym c.as_slice-order.ensures) c.in_ok-order.ensures.order.is_order
 
 pub returns-clause-run : goal.returns-clause-run
 returns-clause-run c =

@@ -6,21 +6,22 @@ use Rattle.directive_run.proofs.Certificates.{low-at}
 use Rattle.directive_run.proofs.OrderRuns.{order-tried}
 use Rattle.directive_run.proofs.batches.ClaimBatch.test.Goals as goal
 
-pub test_by_moments-requires-clause-order : goal.test_by_moments-requires-clause-order
-test_by_moments-requires-clause-order c =
+pub invariant_of-test_by_moments-clause-is_order :
+    goal.invariant_of-test_by_moments-clause-is_order
+invariant_of-test_by_moments-clause-is_order c =
     let claim = c.args.self.now in
     let low =
     low-at claim.script.deal.now.threads claim.directive.now.low c.args.place c.in_ok-order.order
     claim.low c.in_ok-order.ensures in
-    subst IsOrder (sym c.as_slice-order.ensures) low.is_order
+    ∣ subst IsOrder (sym c.as_slice-order.ensures) low.is_order ∣₁
 
-pub test_by_moments-requires-clause-whole : goal.test_by_moments-requires-clause-whole
-test_by_moments-requires-clause-whole c =
+pub test_by_moments-requires : goal.test_by_moments-requires
+test_by_moments-requires c =
     let claim = c.args.self.now in
     let low =
     low-at claim.script.deal.now.threads claim.directive.now.low c.args.place c.in_ok-order.order
     claim.low c.in_ok-order.ensures in
-    ap length c.as_slice-order.ensures ∙ low.whole
+    record { whole = ap length c.as_slice-order.ensures ∙ low.whole }
 
 pub returns-clause-run : goal.returns-clause-run
 returns-clause-run c =

@@ -19,14 +19,17 @@ returns-clause-code g c =
     let whole = c.into_whole.result in
     let is = c.in_ok-test.ensures.run played c.in_ok-played.ensures in
     told-run (directed_run ready.deal.now (bodies_of_code (listing ready.code.now))
-    c.args.order.now c.args.moments.now c.args.limit) played.events whole.events played.outcome
+    c.args.priorities.now.order.now c.args.priorities.now.moments.now c.args.limit) played.events
+    whole.events played.outcome
     whole.verdict is.directed c.into_whole.ensures.events c.into_whole.ensures.verdict
 
 pub returns-clause-directed : goal.returns-clause-directed
 returns-clause-directed g c = λ script of.
     let deal = c.args.self.now.deal.now in
     let code = listing c.args.self.now.code.now in
-    ap (λ bodies. directed_run deal bodies c.args.order.now c.args.moments.now c.args.limit)
+    ap (λ bodies. directed_run deal bodies c.args.priorities.now.order.now
+    c.args.priorities.now.moments.now
+    c.args.limit)
     (sym (code_bodies script code of.is_code)) ∙ returns-clause-code g c
 
 pub returns-clause-few : goal.returns-clause-few

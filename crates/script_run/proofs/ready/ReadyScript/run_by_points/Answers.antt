@@ -20,15 +20,18 @@ returns-clause-code g c =
     let played = c.in_ok-played.played in
     let whole = c.into_whole.result in
     let is = c.in_ok-test.ensures.run played c.in_ok-played.ensures in
-    told-run (run ready.deal.now (bodies_of_code (listing ready.code.now)) c.args.order.now
-    c.args.points.now c.args.limit) played.events whole.events played.outcome whole.verdict is.run
+    told-run (run ready.deal.now (bodies_of_code (listing ready.code.now))
+    c.args.priorities.now.order.now
+    c.args.priorities.now.points.now c.args.limit) played.events whole.events played.outcome
+    whole.verdict is.run
     c.into_whole.ensures.events c.into_whole.ensures.verdict
 
 pub returns-clause-run : goal.returns-clause-run
 returns-clause-run g c = λ script of.
     let deal = c.args.self.now.deal.now in
     let code = listing c.args.self.now.code.now in
-    ap (λ bodies. run deal bodies c.args.order.now c.args.points.now c.args.limit)
+    ap (λ bodies. run deal bodies c.args.priorities.now.order.now c.args.priorities.now.points.now
+    c.args.limit)
     (sym (code_bodies script code of.is_code)) ∙ returns-clause-code g c
 
 pub returns-clause-played : goal.returns-clause-played
@@ -38,7 +41,8 @@ returns-clause-played g c = λ script of.
     let played = c.in_ok-played.played in
     let whole = c.into_whole.result in
     let is = c.in_ok-test.ensures.run played c.in_ok-played.ensures in
-    told-played (ByPoints c.args.order.now c.args.points.now) deal (bodies_of_code code)
+    told-played (ByPoints c.args.priorities.now.order.now c.args.priorities.now.points.now) deal
+    (bodies_of_code code)
     (bodies_of script) c.args.limit played.events whole.events played.outcome whole.verdict
     (code_bodies script code of.is_code) c.into_whole.ensures.events c.into_whole.ensures.verdict
     is.played

@@ -23,6 +23,8 @@ returns-clause-run c =
     let ready = c.args.self.now in
     let made = c.by_moments.ensures in
     moments-made ready.deal.now c.in_ok-own.own (bodies_of_code (listing ready.code.now))
-    c.args.order.now c.args.moments.now c.args.limit c.by_moments.result c.in_ok-bodies.bodies
+    c.args.priorities.now.order.now c.args.priorities.now.moments.now c.args.limit
+    c.by_moments.result
+    c.in_ok-bodies.bodies
     made.plan
     made.deal made.limit made.bodies c.in_ok-own.ensures c.in_ok-bodies.ensures.code

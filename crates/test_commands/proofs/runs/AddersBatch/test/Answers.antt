@@ -2,5 +2,5 @@
 use Rattle.worker_run.proofs.laws.Orders.{declared_is_order}
 use Rattle.test_commands.proofs.runs.AddersBatch.test.Goals as goal
 
-pub test_by_points-requires-clause-order : goal.test_by_points-requires-clause-order
-test_by_points-requires-clause-order c = declared_is_order 3
+pub invariant_of-priorities-clause-is_order : goal.invariant_of-priorities-clause-is_order
+invariant_of-priorities-clause-is_order c = ∣ declared_is_order 3 ∣₁

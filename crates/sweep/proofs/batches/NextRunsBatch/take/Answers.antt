@@ -3,7 +3,7 @@ use Rattle.std.proofs.Common.{Some, sym, ap, subst, ◌∙◌, arith}
 use Rattle.std.proofs.lemmas.Option.{slice_get-get_or}
 use Rattle.sweep.specs.Batches.{setup_of_sweep, AreAbove}
 use Rattle.sweep.proofs.Aheads.{next-ahead}
-use Rattle.sweep.proofs.batches.NextBatch.take.Goals as goal
+use Rattle.sweep.proofs.batches.NextRunsBatch.take.Goals as goal
 
 pub count_run-requires-clause-ahead : goal.count_run-requires-clause-ahead
 count_run-requires-clause-ahead c =
