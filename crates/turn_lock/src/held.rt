@@ -20,18 +20,28 @@ use std::sync::Wait;
 use std::thread::yield_now;
 use turn_book::TurnBook;
 
-/// How often a waiting thread looks at its turn word, and yields, before it sleeps. Measured with
-/// four quiet processors: two threads that hand the turn to each other by semaphores make a little
-/// over 1,000,000 steps a second with 10 looks as with 1,000, and 360,000 where they sleep at once;
+/// How often the waiting threads of a test look at their turn words, and yield, before they sleep:
+/// each of them this often, divided by the number of the test's threads. Measured with four quiet
+/// processors: two threads that hand the turn to each other by semaphores make a little over
+/// 1,000,000 steps a second with 10 looks each as with 1,000, and 360,000 where they sleep at once;
 /// a bounded buffer of three threads makes 650,000 with 200 or 1,000 looks, 620,000 with 50, and
-/// 480,000 with 10 or none. Pinned to one processor, 10 looks do as well as 1,000, and none up to a
-/// tenth less.
-const LOOKS: u32 = 200;
+/// 480,000 with 10 or none; rings of three and of five threads take a seventh longer with 20 looks
+/// than with 200, rings of eight and of sixteen as long. Sixteen threads that seldom hand the turn
+/// over take half the processor time with 20 looks, and on busy processors half the time. Pinned to
+/// one processor, 10 looks do as well as 1,000, and none up to a tenth less.
+const LOOKS: u32 = 400;
+
+/// How often each thread of a test looks, by the number of threads.
+fn looks_of_each(threads: u32) -> u32 {
+    LOOKS / threads.max(1)
+}
 
 /// A lock that holds a book of turns, for many seats.
 #[derive(Drop)]
 pub struct TurnLock<P: Policy> {
     pub(crate) table: Table<Slot<P>, View, Snapshot<Slot<P>>, LockLaw, Global>,
+    /// How often a waiting thread looks at its turn word before it sleeps.
+    looks: u32,
     ghost words: { table.shared.table_id.words ≡ table.shared.key.value.book.deal.threads + 1 },
     ghost slots: { table.shared.table_id.slots ≡ 1 },
 }
@@ -66,7 +76,10 @@ impl<P: Policy> TurnLock<P> {
         let mut slots = Vec::with_capacity(alloc, 1)?;
         slots.push_reserved(slot);
         match Table::new(alloc, words.as_slice(), slots, &about) {
-            Ok((table, seat)) => Ok((TurnLock { table }, Seat::first(seat, threads))),
+            Ok((table, seat)) => {
+                let looks = looks_of_each(threads);
+                Ok((TurnLock { table, looks }, Seat::first(seat, threads)))
+            }
             Err(Refused { slots: _ }) => Err(NoMemory),
         }
     }
@@ -133,7 +146,7 @@ impl<P: Policy> TurnLock<P> {
         ensures seen { Within (view seat).seen result }
         ensures own { (t : ℕ) → t < result.deal.threads → SameOf t (view seat).seen result }
     {
-        let TurnLock { table } = self;
+        let TurnLock { table, looks: _ } = self;
         let Seat {
             seat: table_seat,
             serves: _,
@@ -299,7 +312,7 @@ impl<P: Policy> TurnLock<P> {
     fn has_changed(&self, thread: u32, word: u32) -> bool
         requires { thread < (first_book self.now).deal.threads }
     {
-        for _ in 0..LOOKS {
+        for _ in 0..self.looks {
             if self.turn_word(thread) != word {
                 return true;
             }
