@@ -46,6 +46,7 @@ mod run;
 mod runner;
 mod serving;
 mod share;
+mod start;
 mod task_lists;
 mod tasks;
 mod workers;

@@ -7,6 +7,7 @@ ghost use Rattle.worker_run.specs.Batches.{IsThere, ToldAt};
 ghost use Rattle.pct_ask.specs.declared.limits.TheConstants.{MAX_THREADS};
 
 use crate::batch::{RunningTest, Share, Task};
+use crate::start::start;
 use crate::task_lists::{fill_lists, join_tasks, serve_shares, serve_tasks, take_tasks};
 use pct_ask::Body;
 use pct_outside::Gate;
@@ -150,7 +151,7 @@ fn start_worker<R: Threads + Wait + Sync, P: Policy, B: Body, G: Gate>(
                 requires { AreTasks B.pending tests.now.items thread tasks.items }
                 ensures { AreBack B.pending thread tasks.items result.items }
             { serve_if(rt, tests, goes, tasks, thread, gate) };
-            match scope.spawn_with(promise, work) {
+            match start(scope, promise, work) {
                 Ok(child) => {
                     let shares = start_workers(rt, tests, shares, lists, gate);
                     go_on(rt, tests, shares, child.join(rt), thread, gate)

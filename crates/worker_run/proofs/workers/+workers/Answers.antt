@@ -22,9 +22,9 @@ use Rattle.worker_run.proofs.Joins.{told-last, told-joined, beside-same}
 use Rattle.worker_run.proofs.workers.+workers.Lts-fn-start_worker-scope as scope
 use Rattle.worker_run.proofs.workers.+workers.Goals as goal
 
-pub start_worker-scope-spawn_with-requires-send-F
-    : goal.start_worker-scope-spawn_with-requires-send-F
-start_worker-scope-spawn_with-requires-send-F g t c = λ κs lives.
+pub start_worker-scope-start-requires-send-F
+    : goal.start_worker-scope-start-requires-send-F
+start_worker-scope-start-requires-send-F g t c = λ κs lives.
     let P = param 1 g.row.P in
     let B = param 2 g.row.B in
     let policy : IsSend P = search (rules, sendable) in
