@@ -8,7 +8,7 @@ ghost use Rattle.script_body.specs.Bodies.{AreOf};
 use pct_ask::Deal;
 use pct_outside::OpenGate;
 use policy_pick::Pct;
-use priority_draw::declared_order;
+use priority_draw::Words;
 use script_body::bodies_of;
 use script_code::{Code, compile};
 use script_parse::parse;
@@ -63,7 +63,7 @@ fn run_once<R: Threads + Wait + Sync>(
     Ok(played.events.len())
 }
 
-/// How many steps so many runs in declared order have in all.
+/// How many steps so many runs have in all. The first is by the order of seed 1, and so on.
 fn run_all<R: Threads + Wait + Sync>(
     rt: &R,
     alloc: Global,
@@ -74,10 +74,11 @@ fn run_all<R: Threads + Wait + Sync>(
 ) -> Result<u64, NoMemory>
     requires { (script : ScriptText) × AreOf script (listing code.now) deal.now }
 {
-    let order = declared_order(alloc, deal.threads)?;
     let mut steps = 0u64;
-    for _ in 0..times {
-        let more = run_once(rt, alloc, code, deal, &order, mode)?;
+    for run in 0..times {
+        let mut words = Words::of_seed(run as u64 + 1);
+        let order = words.draw_order(alloc, deal.threads)?;
+        let more = run_once(rt, alloc, code, deal, order.as_slice(), mode)?;
         steps = steps.saturating_add(more as u64);
     }
     Ok(steps)
