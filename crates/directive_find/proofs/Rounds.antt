@@ -1,5 +1,5 @@
 -- One moment more that is needed, or left out.
-use Rattle.std.proofs.Common.{◌≡◌, ◌≢◌, ℕ, ◌+◌, ◌<◌, Some, None, Option, IfSome, List, length, sym}
+use Rattle.std.proofs.Common.{◌≡◌, ◌≢◌, ℕ, ◌+◌, ◌<◌, ◌≤◌, Some, None, Option, IfSome, List, length, sym}
 use Rattle.std.proofs.Common.{ap, subst, ◌∙◌, arith, inl, inr}
 use Rattle.std.specs.List.{remove}
 use Rattle.std.proofs.lemmas.Bool.{cases_eq}
@@ -9,7 +9,7 @@ use Rattle.pct_ask.specs.declared.verdict.Verdict.{Verdict}
 use Rattle.pct_ask.specs.Bodies.{Pending}
 use Rattle.rank_now.specs.declared.moment.Moment.{Moment}
 use Rattle.worker_run.specs.Run.{directed_run}
-use Rattle.directive_find.specs.declared.reducing.Short.{Short}
+use Rattle.directive_find.specs.declared.short.Short.{Short}
 use Rattle.directive_find.specs.Reduced.{HasVerdict, NeedsFirst, Reduces, Drops, Leaves}
 use Rattle.directive_find.proofs.laws.Findings.{same-whole}
 
@@ -35,10 +35,11 @@ module _ (deal : Deal) (bodies : List Pending) (order : List ℕ) (limit : ℕ)
     ]
 
     -- or it is the first that can be left out
-    pub left-out : (steps : ℕ) → place < length moments → ends ≡ verdict → steps ≡ length made
+    pub left-out : (steps : ℕ) (few : length rest ≤ 7) → place < length moments → ends ≡ verdict
+        → steps ≡ length made
         → Leaves deal bodies order limit verdict moments
-        (Some (record { moments = rest; steps = steps }))
-    left-out steps within same number =
+        (Some (record { moments = rest; steps = steps; few = few }))
+    left-out steps few within same number =
         let V : Verdict → Type 0 =
         λ v. directed_run deal bodies order rest limit ≡ Some (made, v) in
         let leads = subst V same runs in (

@@ -6,7 +6,7 @@ use Rattle.pct_ask.specs.declared.verdict.Verdict.{Verdict}
 use Rattle.pct_ask.specs.Bodies.{Pending}
 use Rattle.rank_now.specs.declared.moment.Moment.{Moment}
 use Rattle.worker_run.specs.Run.{directed_run}
-use Rattle.directive_find.specs.declared.reducing.Short.{Short}
+use Rattle.directive_find.specs.declared.short.Short.{Short}
 
 -- the directed run of the moments has the verdict
 abbrev pub HasVerdict : Deal → List Pending → List ℕ → ℕ → Verdict → List Moment → Type 0

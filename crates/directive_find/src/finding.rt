@@ -8,7 +8,8 @@ ghost use Rattle.script_body.specs.Bodies.{bodies_of, AreOf};
 ghost use Rattle.directive_find.specs.Found.{Finds};
 ghost use Rattle.pct_ask.specs.declared.limits.TheConstants.{MAX_POINTS, MAX_STEPS};
 
-use crate::reducing::{Short, reduce};
+use crate::reducing::reduce;
+use crate::short::Short;
 use choices::moments_of;
 use pct_ask::{Deal, Limit, Verdict};
 use pct_outside::Gate;
@@ -70,7 +71,7 @@ pub fn find<R: Threads + Wait + Sync, G: Gate>(
     }
     let moments = moments_of(alloc, whole.events.as_slice(), points)?;
     let whole = Short { moments, steps };
-    let short = reduce(rt, alloc, &ready, order, whole, &verdict, limit, gate)?;
+    let short = reduce(rt, alloc, &ready, &priorities, whole, &verdict, limit, gate)?;
     Ok(FoundOut::Events {
         events: short.moments,
         verdict,

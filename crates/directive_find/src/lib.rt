@@ -13,6 +13,7 @@
 mod finding;
 mod found;
 mod reducing;
+mod short;
 
 pub use finding::{FoundOut, find};
 pub use found::one_finding;

@@ -1,27 +1,19 @@
 //! Moments without those that a verdict doesn't need.
 
 ghost use Rattle.std.specs.Prelude.{◌≡◌, ◌≤◌, ◌<◌, length, remove, IfOk, IfSome};
-ghost use Rattle.rank_now.specs.Order.{IsOrder};
 ghost use Rattle.script_code.specs.Listing.{listing};
 ghost use Rattle.script_run.specs.Ready.{bodies_of_code};
 ghost use Rattle.directive_find.specs.Reduced.{LeadsTo, Leaves, IsReduced};
-ghost use Rattle.pct_ask.specs.declared.limits.TheConstants.{MAX_POINTS};
 
+use crate::short::Short;
 use pct_ask::{Limit, Verdict};
 use pct_outside::Gate;
-use policy_pick::{DirectedPriorities, Moment, MomentList};
+use policy_pick::{DirectedPriorities, Moment, MomentList, Priorities};
 use script_run::ReadyScript;
 use std::alloc::{AllocError as NoMemory, Global};
 use std::sync::Wait;
 use std::thread::Threads;
 use worker_run::{Serve, step_count};
-
-/// Moments, and the number of steps of their directed run.
-#[derive(Debug, Drop)]
-pub struct Short {
-    pub moments: MomentList,
-    pub steps: u32,
-}
 
 /// The moments but the one at a place.
 fn without(alloc: Global, moments: &[Moment], place: usize) -> Result<MomentList, NoMemory>
@@ -71,25 +63,25 @@ fn leave_out<R: Threads + Wait + Sync, G: Gate>(
 }
 
 /// Leaves out single moments, each time the first that the verdict doesn't need, until each is
-/// needed.
+/// needed. The moments stand in the place of the points of these priorities.
 pub fn reduce<R: Threads + Wait + Sync, G: Gate>(
     rt: &R,
     alloc: Global,
     ready: &ReadyScript<'_>,
-    order: &[u32],
+    priorities: &Priorities<'_>,
     whole: Short,
     verdict: &Verdict,
     limit: Limit,
     gate: &G,
 ) -> Result<Short, NoMemory>
-    requires order { IsOrder order.now }
-    requires whole { length order.now ≡ ready.now.deal.now.threads }
-    requires few_moments { length whole.moments ≤ MAX_POINTS }
+    requires whole { length priorities.now.order.now ≡ ready.now.deal.now.threads }
     requires leads { LeadsTo ready.now.deal.now (bodies_of_code (listing ready.now.code.now))
-        order.now limit verdict.now whole.moments whole.steps }
+        priorities.now.order.now limit verdict.now whole.moments whole.steps }
     ensures { IfOk result (IsReduced ready.now.deal.now
-        (bodies_of_code (listing ready.now.code.now)) order.now limit verdict.now whole.moments) }
+        (bodies_of_code (listing ready.now.code.now)) priorities.now.order.now limit verdict.now
+        whole.moments) }
 {
+    let order = priorities.order;
     let mut short = whole;
     'rounds: while let Some(shorter) = leave_out(
         rt,

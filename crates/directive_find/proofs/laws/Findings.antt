@@ -15,7 +15,7 @@ use Rattle.rank_now.specs.Order.{IsOrder}
 use Rattle.turn_book.specs.Posts.{schedule_of}
 use Rattle.worker_run.specs.Run.{Run, run, directed_run}
 use Rattle.worker_run.proofs.laws.WholeRuns.{directed-is-there, run-played}
-use Rattle.directive_find.specs.declared.reducing.Short.{Short}
+use Rattle.directive_find.specs.declared.short.Short.{Short}
 use Rattle.directive_find.specs.declared.finding.FoundOut.{FoundOut}
 use Rattle.directive_find.specs.declared.finding.FoundOut.TheVariants.{Events, Passes}
 use Rattle.choices.specs.Moments.{moments_of, MomentFits}

@@ -15,14 +15,15 @@ use Rattle.directive_find.proofs.laws.FoundMoments.{found-run}
 use Rattle.directive_find.proofs.laws.Findings.{made-found, made-pass}
 use Rattle.directive_find.proofs.finding.find.Goals as goal
 
-pub reduce-requires-clause-few_moments : goal.reduce-requires-clause-few_moments
-reduce-requires-clause-few_moments g c =
-    omega (
-      arith,
-      ap length c.in_ok-moments.ensures,
-      moments-few (schedule_of c.as_slice.result.now) c.args.points.now,
-      c.requires.few_points,
-    )
+pub invariant_of-whole : goal.invariant_of-whole
+invariant_of-whole g c = record {
+  few = omega (
+    arith,
+    ap length c.in_ok-moments.ensures,
+    moments-few (schedule_of c.as_slice.result.now) c.args.points.now,
+    c.requires.few_points,
+  );
+}
 
 pub reduce-requires-clause-leads : goal.reduce-requires-clause-leads
 reduce-requires-clause-leads g c κs within =

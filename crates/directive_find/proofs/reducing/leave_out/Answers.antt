@@ -1,5 +1,6 @@
 -- Each moment is needed so far, or is left out.
-use Rattle.std.proofs.Common.{arith, ap, sym, ◌∙◌}
+use Rattle.std.proofs.Common.{length, arith, ap, sym, ◌∙◌}
+use Rattle.std.proofs.lemmas.List.Edits.{length-remove}
 use Rattle.script_code.specs.Listing.{listing}
 use Rattle.worker_run.specs.Run.{directed_run}
 use Rattle.script_run.specs.Ready.{bodies_of_code}
@@ -18,7 +19,13 @@ returns-then-is-clause-leaves g c =
     c.args.priorities.now.order.now
     es c.args.limit) (sym c.as_slice.ensures)
     ∙ c.in_ok-whole.ensures.code)
-    c.loop-place.invariant c.step_count-steps.result c.loop-place-test.true
+    c.loop-place.invariant c.step_count-steps.result
+    (omega (
+      arith,
+      ap length c.in_ok-rest.ensures,
+      length-remove c.args.priorities.now.moments.now c.loop-place.place c.loop-place-test.true,
+      c.args.priorities.now.few_moments,
+    )) c.loop-place-test.true
     (c.is.ensures.0 c.if-is.true) c.step_count-steps.ensures
 
 pub loop-place-preserved : goal.loop-place-preserved

@@ -16,14 +16,14 @@ rounds-preserved g c =
           c.in-Some.is c.in_ok-shorter.ensures.fewer in
           omega (arith, fewer, ap length c.as_slice.ensures, c.rounds.invariant.few));
       leads =
-          (some-leaves ready.deal.now bodies c.args.order.now c.args.limit
+          (some-leaves ready.deal.now bodies c.args.priorities.now.order.now c.args.limit
           c.args.verdict.now c.rounds.short.moments c.as_slice.result.now c.in_ok-shorter.field-0
           c.as_slice.ensures c.in-Some.shorter c.in-Some.is
           c.in_ok-shorter.ensures.leaves).3;
       rest = λ left r. c.rounds.invariant.rest left
-          (one-round ready.deal.now bodies c.args.order.now c.args.limit c.args.verdict.now
+          (one-round ready.deal.now bodies c.args.priorities.now.order.now c.args.limit c.args.verdict.now
           c.rounds.short.moments left c.in-Some.shorter
-          (some-leaves ready.deal.now bodies c.args.order.now c.args.limit
+          (some-leaves ready.deal.now bodies c.args.priorities.now.order.now c.args.limit
           c.args.verdict.now c.rounds.short.moments c.as_slice.result.now c.in_ok-shorter.field-0
           c.as_slice.ensures c.in-Some.shorter c.in-Some.is
           c.in_ok-shorter.ensures.leaves) r);
@@ -35,7 +35,7 @@ returns g c =
     let bodies = bodies_of_code (listing ready.code.now) in
     record {
       reduced = c.rounds.invariant.rest c.rounds.short.moments
-          (Stays c.rounds.short.moments (none-leaves ready.deal.now bodies c.args.order.now
+          (Stays c.rounds.short.moments (none-leaves ready.deal.now bodies c.args.priorities.now.order.now
           c.args.limit c.args.verdict.now c.rounds.short.moments c.as_slice.result.now
           c.in_ok-shorter.field-0 c.as_slice.ensures c.in_default.is
           c.in_ok-shorter.ensures.leaves));

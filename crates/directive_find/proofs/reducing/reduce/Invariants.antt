@@ -12,10 +12,10 @@ invariant-rounds g l =
     let bodies = bodies_of_code (listing l.ready.code.now) in
     record {
       few : length l.short.moments ≤ 7;
-      leads : LeadsTo deal bodies l.order l.limit l.verdict l.short.moments l.short.steps;
+      leads : LeadsTo deal bodies l.priorities.order.now l.limit l.verdict l.short.moments l.short.steps;
       rest : (left : List Moment)
-          → Reduces (HasVerdict deal bodies l.order l.limit l.verdict) l.short.moments left
-          → Reduces (HasVerdict deal bodies l.order l.limit l.verdict) l.fn.whole.moments left;
+          → Reduces (HasVerdict deal bodies l.priorities.order.now l.limit l.verdict) l.short.moments left
+          → Reduces (HasVerdict deal bodies l.priorities.order.now l.limit l.verdict) l.fn.whole.moments left;
     }
 
 abbrev pub decreases-rounds : goal.decreases-rounds
