@@ -1,7 +1,6 @@
 //! Runs of a script.
 
 ghost use Rattle.std.specs.Prelude.{◌≡◌, ◌≤◌, Some, IfOk, length};
-ghost use Rattle.priority_draw.specs.Orders.{IsOrderOf};
 ghost use Rattle.script_tree.specs.ScriptSeen.{plain_script};
 ghost use Rattle.trace_text.specs.Lawful.{IsKnownRun};
 ghost use Rattle.pct_top.specs.Runs.{run_of, trace_version};
@@ -28,7 +27,7 @@ pub fn play<R: Threads + Wait + Sync, G: Gate>(
     gate: &G,
 ) -> Result<WholeRun, NoMemory>
     requires ready { IsReadyTest test.now }
-    requires order { IsOrderOf test.now.deal.threads plan.now.order }
+    requires whole { length plan.now.order ≡ test.now.deal.threads }
     ensures run { IfOk result (λ run.
         run_of (plain_script test.now.script) test.now.deal plan.now.order plan.now.points
         plan.now.limit ≡ Some (run.events, run.verdict)) }

@@ -1,9 +1,9 @@
 //! What a run is made by.
 
-ghost use Rattle.std.specs.Prelude.{◌≡◌, ◌≤◌, None, IfOk};
+ghost use Rattle.std.specs.Prelude.{◌≡◌, ◌≤◌, None, IfOk, length};
 ghost use Rattle.script_tree.specs.ScriptSeen.{plain_script};
 ghost use Rattle.priority_draw.specs.Drawing.{draw_of_seed};
-ghost use Rattle.priority_draw.specs.Orders.{IsOrderOf};
+ghost use Rattle.rank_now.specs.Order.{IsOrder};
 ghost use Rattle.pct_top.specs.Ready.{IsReadyTest};
 ghost use Rattle.pct_top.specs.Settings.{ArePoints};
 ghost use Rattle.pct_top.specs.Runs.{DrawsFrom};
@@ -26,6 +26,7 @@ pub struct RunPlan {
     pub order: OrderList,
     pub points: PointList,
     pub limit: Limit,
+    ghost is_order: { ∥ IsOrder order ∥₁ },
     ghost points_fit: { ArePoints points },
 }
 
@@ -88,7 +89,7 @@ pub fn drawn(
     ensures points { IfOk result
         (λ own. own.points ≡ (draw_of_seed seed threads steps depth).points) }
     ensures limit { IfOk result (λ own. own.limit ≡ limit) }
-    ensures are { IfOk result (λ own. IsOrderOf threads own.order) }
+    ensures whole { IfOk result (λ own. length own.order ≡ threads) }
 {
     let mut words = Words::of_seed(seed);
     let order = words.draw_order(alloc, threads)?;

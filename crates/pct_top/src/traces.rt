@@ -1,7 +1,6 @@
 //! The trace of a run.
 
 ghost use Rattle.std.specs.Prelude.{◌≡◌, length, IfOk};
-ghost use Rattle.priority_draw.specs.Orders.{IsOrderOf};
 ghost use Rattle.script_tree.specs.ScriptSeen.{plain_script};
 ghost use Rattle.trace_text.specs.Lawful.{IsKnownRun};
 ghost use Rattle.pct_top.specs.Runs.{trace_version as version_by, is_passed as is_passed_by};
@@ -38,7 +37,7 @@ pub fn told_trace(
     run: &WholeRun,
     done: bool,
 ) -> Result<Outcome, NoMemory>
-    requires order { IsOrderOf (length script.now.names.threads) plan.order }
+    requires whole { length plan.order ≡ length script.now.names.threads }
     requires known { IsKnownRun script.now.names (version_by (plain_script script.now)) plan.limit
         run.now.events run.now.verdict }
     ensures { IfOk result (λ outcome.

@@ -1,7 +1,6 @@
 //! `expose`: the run that a directive exposes under an order.
 
 ghost use Rattle.std.specs.Prelude.{◌≡◌, length, IfOk, Some, take};
-ghost use Rattle.rank_now.specs.Order.{IsOrder};
 ghost use Rattle.directive_run.specs.Exposing.{Exposes};
 ghost use Rattle.script_body.specs.Bodies.{bodies_of};
 ghost use Rattle.script_tree.specs.ScriptSeen.{plain_script};
@@ -25,7 +24,7 @@ use crate::text::{Text, TextList};
 use crate::traces::told_trace;
 use directive::Directive;
 use directive_run::{Exposed, expose};
-use pct_ask::{Limit, OrderList};
+use pct_ask::{Limit, PointList};
 use pct_outside::{Gate, Shelf};
 use std::alloc::{AllocError as NoMemory, Global};
 use std::sync::Wait;
@@ -54,32 +53,36 @@ pub struct ExposeJob {
 }
 
 impl ExposeJob {
-    /// What is written of what was exposed under this order.
+    /// What is written of what was exposed under the order of this plan.
     fn told_exposed(
         &self,
         alloc: Global,
         test: &ReadyTest,
-        order: OrderList,
+        plan: RunPlan,
         directive: &Directive,
         exposed: Exposed,
     ) -> Result<Outcome, NoMemory>
         requires ready { IsReadyTest test.now }
-        requires order { IsOrder order }
-        requires whole { length order ≡ test.now.deal.threads }
-        requires exposed { Exposes test.now.deal (bodies_of (plain_script test.now.script)) order
-            directive.now.events self.now.steps self.now.limit exposed }
+        requires whole { length plan.order ≡ test.now.deal.threads }
+        requires exposed { Exposes test.now.deal (bodies_of (plain_script test.now.script))
+            plan.order directive.now.events self.now.steps plan.limit exposed }
         ensures { IfOk result
-            (λ outcome. TellsExposed (plain_script test.now.script) test.now.deal order
-            self.now.limit directive.now.verdict exposed (printed_of outcome)) }
+            (λ outcome. TellsExposed (plain_script test.now.script) test.now.deal plan.order
+            plan.limit directive.now.verdict exposed (printed_of outcome)) }
     {
         match exposed {
             Exposed::Points { points, played } => {
                 let run = played.into_whole();
                 let done = run.verdict == directive.verdict;
+                let RunPlan {
+                    order,
+                    points: _,
+                    limit,
+                } = plan;
                 let plan = RunPlan {
                     order,
                     points,
-                    limit: self.limit,
+                    limit,
                 };
                 told_trace(alloc, &test.script, plan, &run, done)
             }
@@ -90,35 +93,34 @@ impl ExposeJob {
         }
     }
 
-    /// What a directive exposes over a test, under this order.
+    /// What a directive exposes over a test, under the order of this plan.
     fn exposed_by<R: Threads + Wait + Sync, G: Gate>(
         &self,
         rt: &R,
         alloc: Global,
         test: &ReadyTest,
-        order: OrderList,
+        plan: RunPlan,
         directive: &Directive,
         gate: &G,
     ) -> Result<Outcome, NoMemory>
         requires ready { IsReadyTest test.now }
-        requires order { IsOrder order }
-        requires whole { length order ≡ test.now.deal.threads }
+        requires whole { length plan.order ≡ test.now.deal.threads }
         ensures { IfOk result
-            (λ outcome. PrintsExposed (plain_script test.now.script) test.now.deal order
-            self.now.steps self.now.limit directive.now (printed_of outcome)) }
+            (λ outcome. PrintsExposed (plain_script test.now.script) test.now.deal plan.order
+            self.now.steps plan.limit directive.now (printed_of outcome)) }
     {
         let exposed = expose(
             rt,
             alloc,
             &test.code,
             &test.deal,
-            order.as_slice(),
+            plan.order.as_slice(),
             directive,
             self.steps,
-            self.limit.steps(),
+            plan.limit.steps(),
             gate,
         )?;
-        self.told_exposed(alloc, test, order, directive, exposed)
+        self.told_exposed(alloc, test, plan, directive, exposed)
     }
 
     pub fn expose_file<R: Threads + Wait + Sync, H: Shelf, G: Gate>(
@@ -150,7 +152,14 @@ impl ExposeJob {
         };
         match read_directed(alloc, directive, names, shelf) {
             Err(refusal) => Err(refusal),
-            Ok(plan) => Ok(self.exposed_by(rt, alloc, test, order, &plan, gate)?),
+            Ok(directive) => {
+                let plan = RunPlan {
+                    order,
+                    points: PointList::new(alloc),
+                    limit: self.limit,
+                };
+                Ok(self.exposed_by(rt, alloc, test, plan, &directive, gate)?)
+            }
         }
     }
 }

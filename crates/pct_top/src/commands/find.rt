@@ -1,7 +1,6 @@
 //! `find`: from a script's failing run to a short directive.
 
 ghost use Rattle.std.specs.Prelude.{◌≡◌, ◌≤◌, ◌<◌, length, IfOk};
-ghost use Rattle.priority_draw.specs.Orders.{IsOrderOf};
 ghost use Rattle.script_tree.specs.ScriptSeen.{plain_script};
 ghost use Rattle.pct_top.specs.Ready.{IsReadyTest};
 ghost use Rattle.pct_top.specs.Outcome.{printed_of};
@@ -72,7 +71,7 @@ pub fn directive_of<R: Threads + Wait + Sync, G: Gate>(
     gate: &G,
 ) -> Result<Outcome, NoMemory>
     requires ready { IsReadyTest test.now }
-    requires order { IsOrderOf test.now.deal.threads plan.order }
+    requires whole { length plan.order ≡ test.now.deal.threads }
     ensures { IfOk result (λ outcome. PrintsFound (plain_script test.now.script) test.now.deal
         plan.order plan.points plan.limit (printed_of outcome)) }
 {

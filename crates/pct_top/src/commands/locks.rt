@@ -1,8 +1,7 @@
 //! `locks`: in which order a script's run took its mutexes.
 
-ghost use Rattle.std.specs.Prelude.{◌≡◌, ◌++◌, ◌∷◌, map, OnOk, IfOk, codes};
+ghost use Rattle.std.specs.Prelude.{◌≡◌, ◌++◌, ◌∷◌, map, OnOk, IfOk, codes, length};
 ghost use Rattle.pct_ask.specs.TraceText.{name_at, line_text};
-ghost use Rattle.priority_draw.specs.Orders.{IsOrderOf};
 ghost use Rattle.script_tree.specs.ScriptSeen.{plain_script};
 ghost use Rattle.pct_top.specs.Ready.{IsReadyTest};
 ghost use Rattle.pct_top.specs.Outcome.{printed_of};
@@ -81,7 +80,7 @@ pub fn locks_of<R: Threads + Wait + Sync, G: Gate>(
     gate: &G,
 ) -> Result<Outcome, NoMemory>
     requires ready { IsReadyTest test.now }
-    requires order { IsOrderOf test.now.deal.threads plan.order }
+    requires whole { length plan.order ≡ test.now.deal.threads }
     ensures { IfOk result (λ outcome. PrintsLocks (plain_script test.now.script) test.now.deal
         plan.order plan.points plan.limit (printed_of outcome)) }
 {

@@ -1,7 +1,6 @@
 //! `run`: the trace of a script's run.
 
-ghost use Rattle.std.specs.Prelude.{IfOk};
-ghost use Rattle.priority_draw.specs.Orders.{IsOrderOf};
+ghost use Rattle.std.specs.Prelude.{◌≡◌, IfOk, length};
 ghost use Rattle.script_tree.specs.ScriptSeen.{plain_script};
 ghost use Rattle.pct_top.specs.Ready.{IsReadyTest};
 ghost use Rattle.pct_top.specs.Outcome.{printed_of};
@@ -27,7 +26,7 @@ pub fn trace_of<R: Threads + Wait + Sync, G: Gate>(
     gate: &G,
 ) -> Result<Outcome, NoMemory>
     requires ready { IsReadyTest test.now }
-    requires order { IsOrderOf test.now.deal.threads plan.order }
+    requires whole { length plan.order ≡ test.now.deal.threads }
     ensures { IfOk result (λ outcome. PrintsTrace (plain_script test.now.script) test.now.deal
         plan.order plan.points plan.limit (printed_of outcome)) }
 {

@@ -8,14 +8,15 @@ use Rattle.worker_run.proofs.laws.Orders.{declared_is_order}
 use Rattle.pct_top.specs.Runs.{run_of}
 use Rattle.pct_top.proofs.run_plan.declared_length.Goals as goal
 
-pub play-requires-clause-order : goal.play-requires-clause-order
-play-requires-clause-order g c κs within =
-    let threads = c.args.test.now.deal.threads in
+pub invariant_of-plan-clause-is_order : goal.invariant_of-plan-clause-is_order
+invariant_of-plan-clause-is_order g c =
     let order = c.from_vec-order.ensures ∙ c.in_ok-declared_order.ensures in
-    record {
-      whole = ap length order ∙ length-range_with_len 0 threads;
-      is_order = subst IsOrder (sym order) (declared_is_order threads);
-    }
+    ∣ subst IsOrder (sym order) (declared_is_order c.args.test.now.deal.threads) ∣₁
+
+pub play-requires-clause-whole : goal.play-requires-clause-whole
+play-requires-clause-whole g c κs within =
+    ap length (c.from_vec-order.ensures ∙ c.in_ok-declared_order.ensures)
+    ∙ length-range_with_len 0 c.args.test.now.deal.threads
 
 pub returns : goal.returns
 returns g c =

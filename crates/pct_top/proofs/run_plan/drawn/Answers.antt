@@ -4,14 +4,18 @@ use Rattle.priority_draw.specs.Drawing.{drawn_points}
 use Rattle.pct_top.proofs.Draws.{drawn_points as drawn-fit}
 use Rattle.pct_top.proofs.run_plan.drawn.Goals as goal
 
-pub invariant_of-result : goal.invariant_of-result
-invariant_of-result c = record {
-  points_fit = (
-    omega (arith, c.in_ok-points.ensures.count, c.points.ensures.few),
-    drawn-fit c.steps.result c.in_ok-points.points c.steps.ensures.fits
-        c.in_ok-points.ensures.steps,
-  );
-}
+pub invariant_of-result-clause-is_order : goal.invariant_of-result-clause-is_order
+invariant_of-result-clause-is_order c = ∣ (c.in_ok-order.ensures.order).is_order ∣₁
+
+pub invariant_of-result-clause-points_fit : goal.invariant_of-result-clause-points_fit
+invariant_of-result-clause-points_fit c = (
+  omega (arith, c.in_ok-points.ensures.count, c.points.ensures.few),
+  drawn-fit c.steps.result c.in_ok-points.points c.steps.ensures.fits
+      c.in_ok-points.ensures.steps,
+)
+
+pub returns-clause-whole : goal.returns-clause-whole
+returns-clause-whole c = (c.in_ok-order.ensures.order).whole
 
 pub returns-clause-points : goal.returns-clause-points
 returns-clause-points c =

@@ -5,6 +5,8 @@ use Rattle.pct_ask.specs.NameLists.{NameLists}
 use Rattle.pct_ask.specs.Limits.{IsStepCount}
 use Rattle.script_tree.specs.ScriptSeen.{plain_script}
 use Rattle.script_body.specs.Bodies.{bodies_of}
+use Rattle.rank_now.specs.Order.{IsOrder}
+use Rattle.rank_now.proofs.laws.KnownOrders.{known_order}
 use Rattle.directive_find.specs.Found.{Finds}
 use Rattle.pct_top.specs.Printed.{printed_text}
 use Rattle.pct_top.specs.commands.Find.{last_of, found_text, IsWellFormed}
@@ -16,6 +18,11 @@ pub find-requires-clause-script : goal.find-requires-clause-script
 find-requires-clause-script g c κs within =
     (plain_script c.args.test.now.script, c.requires.ready)
 
+pub find-requires-clause-order : goal.find-requires-clause-order
+find-requires-clause-order g c κs within =
+    subst IsOrder (sym c.as_slice-order.ensures)
+    (known_order c.args.plan.order c.args.plan.is_order)
+
 pub find-requires-clause-points : goal.find-requires-clause-points
 find-requires-clause-points g c κs within =
     subst (All (λ point. 1 ≤ point)) (sym c.as_slice-points.ensures)
@@ -24,8 +31,7 @@ find-requires-clause-points g c κs within =
 
 pub write_found-requires-clause-some : goal.write_found-requires-clause-some
 write_found-requires-clause-some g c =
-    let whole : length c.args.plan.order ≡ c.args.test.now.deal.threads =
-    (c.requires.order).whole in
+    let whole : length c.args.plan.order ≡ c.args.test.now.deal.threads = c.requires.whole in
     let some : 1 ≤ c.args.test.now.deal.threads = c.args.test.now.deal.some_thread in
     omega (arith, ap length c.as_slice-order.ensures)
 
@@ -34,11 +40,11 @@ write_found-requires-clause-low g c =
     let test = c.args.test.now in
     let order = c.args.plan.order in
     let names = (plain_script test.script).names in
-    let whole : length order ≡ test.deal.threads = (c.requires.order).whole in
+    let whole : length order ≡ test.deal.threads = c.requires.whole in
     let some : 1 ≤ test.deal.threads = test.deal.some_thread in
     let threads : test.deal.threads ≡ length names.threads = (c.requires.ready).is_deal.threads in
     let below : last_of order < length order =
-    ((c.requires.order).is_order).below (length order - 1) (omega arith) in
+    (known_order order c.args.plan.is_order).below (length order - 1) (omega arith) in
     let low : last_of order < length names.threads = omega arith in
     subst (λ (o : List ℕ). last_of o < length c.names.result.now.threads)
     (sym c.as_slice-order.ensures)
@@ -61,7 +67,7 @@ write_found-requires-clause-known g c =
     subst (λ (names : NameLists). IsKnownFinding names c.in_ok-found.found) (sym c.names.ensures)
     (known-finding script test.deal ready.sound ready.is_deal c.args.plan.order
     c.args.plan.points c.args.plan.limit c.in_ok-found.found
-    (sym (c.requires.order).whole) c.args.plan.points_fit.0
+    (sym c.requires.whole) c.args.plan.points_fit.0
     (omega (arith, (c.steps.ensures.fits).1, c.steps.ensures.number))
     finds)
 

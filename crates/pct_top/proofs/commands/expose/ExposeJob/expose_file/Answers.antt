@@ -54,7 +54,7 @@ returns-in_ok-exposed_by-in-Ok-read_directed-clause-comes g c =
     PrintsExposed (plain_script test.script) test.deal o job.steps job.limit in
     let over : Files → List ℕ → Printed → Type 0 = λ files o.
     OfDirective (take directive_bytes (files file)) names (Of o) in
-    let plan = c.in-Ok-read_directed.plan in
+    let plan = c.in-Ok-read_directed.directive in
     let H : NameLists → Type 0 = λ known. HasDirective told file known plan in
     let printed = printed_of c.in_ok-exposed_by-in-Ok-read_directed.field-0 in
     ordered_shown told names items job.word over (missed × OrderFits names (Some items)) order
