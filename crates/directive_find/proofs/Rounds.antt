@@ -1,6 +1,6 @@
 -- One moment more that is needed, or left out.
-use Rattle.std.proofs.Common.{◌≡◌, ◌≢◌, ℕ, ◌+◌, ◌<◌, ◌≤◌, Some, None, Option, IfSome, List, length, sym}
-use Rattle.std.proofs.Common.{ap, subst, ◌∙◌, arith, inl, inr}
+use Rattle.std.proofs.Common.{◌≡◌, ◌≢◌, ℕ, ◌+◌, ◌<◌, ◌≤◌, Some, None, Option, List, length}
+use Rattle.std.proofs.Common.{sym, ap, subst, ◌∙◌, arith, inl, inr}
 use Rattle.std.specs.List.{remove}
 use Rattle.std.proofs.lemmas.Bool.{cases_eq}
 use Rattle.pct_ask.specs.declared.Deal.{Deal}
@@ -80,9 +80,3 @@ module _ (deal : Deal) (bodies : List Pending) (order : List ℕ) (limit : ℕ)
         let T : Option Short → Type 0 = λ t. Leaves deal bodies order limit verdict moments t in
         let E : List Moment → Type 0 = λ es. Leaves deal bodies order limit verdict es told in
         subst T is (subst E same leaves)
-
-pub some-fewer : (lent : List Moment) (told : Option Short) (short : Short) → told ≡ Some short
-    → IfSome told (λ s. length s.moments < length lent) → length short.moments < length lent
-some-fewer lent told short is fewer =
-    let T : Option Short → Type 0 = λ t. IfSome t (λ s. length s.moments < length lent) in
-    subst T is fewer

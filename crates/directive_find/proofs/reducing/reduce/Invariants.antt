@@ -1,4 +1,4 @@
-use Rattle.std.proofs.Common.{◌≤◌, List, length}
+use Rattle.std.proofs.Common.{List, length}
 use Rattle.rank_now.specs.declared.moment.Moment.{Moment}
 use Rattle.script_code.specs.Listing.{listing}
 use Rattle.script_run.specs.Ready.{bodies_of_code}
@@ -10,12 +10,12 @@ abbrev pub invariant-rounds : goal.invariant-rounds
 invariant-rounds g l =
     let deal = l.ready.deal.now in
     let bodies = bodies_of_code (listing l.ready.code.now) in
+    let order = l.priorities.order.now in
     record {
-      few : length l.short.moments ≤ 7;
-      leads : LeadsTo deal bodies l.priorities.order.now l.limit l.verdict l.short.moments l.short.steps;
+      leads : LeadsTo deal bodies order l.limit l.verdict l.short.moments l.short.steps;
       rest : (left : List Moment)
-          → Reduces (HasVerdict deal bodies l.priorities.order.now l.limit l.verdict) l.short.moments left
-          → Reduces (HasVerdict deal bodies l.priorities.order.now l.limit l.verdict) l.fn.whole.moments left;
+          → Reduces (HasVerdict deal bodies order l.limit l.verdict) l.short.moments left
+          → Reduces (HasVerdict deal bodies order l.limit l.verdict) l.fn.whole.moments left;
     }
 
 abbrev pub decreases-rounds : goal.decreases-rounds
