@@ -1,5 +1,5 @@
-//! Runs a script again and again, for measuring, each time by the order of the next seed: its threads
-//! are real threads, or the caller serves them.
+//! Runs a script again and again, for measuring, each time by the order of the next seed: its
+//! threads are real threads, or the caller serves them.
 #![tactic(auto)]
 
 mod repeating;

@@ -17,18 +17,19 @@ told_trace-requires-clause-known c =
     let test = c.args.test.now in
     let ready = c.requires.ready in
     let script = plain_script test.script in
+    let plan = c.args.plan in
     let events = c.args.directive.now.events in
     let X : Exposed → Type 0 = λ exposed.
-    Exposes test.deal (bodies_of script) c.args.plan.order events job.steps c.args.plan.limit exposed in
+    Exposes test.deal (bodies_of script) plan.order events job.steps plan.limit exposed in
     let is = subst X c.in-Points.is c.requires.exposed in
-    let known = known-exposed script test.deal ready.sound ready.is_deal c.args.plan.order events
-    job.steps c.args.plan.limit c.in-Points.points c.in-Points.played is (sym c.requires.whole) in
+    let known = known-exposed script test.deal ready.sound ready.is_deal plan.order events
+    job.steps plan.limit c.in-Points.points c.in-Points.played is (sym c.requires.whole) in
     let run = c.into_whole-run.result in
     let ends : Ends is.verdict ≡ Ends run.verdict =
     sym is.ends ∙ c.into_whole-run.ensures.verdict in
     let verdict : is.verdict ≡ run.verdict = cc in
     let Known : List Event → Verdict → Type 0 =
-    IsKnownRun script.names (trace_version script) c.args.plan.limit in
+    IsKnownRun script.names (trace_version script) plan.limit in
     let E : List Event → Type 0 = λ made. Known made is.verdict in
     let V : Verdict → Type 0 = λ v. Known run.events v in
     subst V verdict (subst E (sym c.into_whole-run.ensures.events) known)
@@ -39,11 +40,11 @@ invariant_of-plan-clause-points_fit c =
     let test = c.args.test.now in
     let ready = c.requires.ready in
     let script = plain_script test.script in
+    let plan = c.args.plan in
     let directive = c.args.directive.now in
     let X : Exposed → Type 0 = λ exposed.
-    Exposes test.deal (bodies_of script) c.args.plan.order directive.events job.steps
-    c.args.plan.limit exposed in
+    Exposes test.deal (bodies_of script) plan.order directive.events job.steps plan.limit
+    exposed in
     let is = subst X c.in-Points.is c.requires.exposed in
-    exposed-points script test.deal ready.sound ready.is_deal c.args.plan.order
-    directive.events job.steps c.args.plan.limit c.in-Points.points c.in-Points.played is
-    directive.few job.steps_fit
+    exposed-points script test.deal ready.sound ready.is_deal plan.order directive.events job.steps
+    plan.limit c.in-Points.points c.in-Points.played is directive.few job.steps_fit
