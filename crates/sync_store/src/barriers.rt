@@ -50,6 +50,23 @@ impl Barrier {
         Ok(barriers)
     }
 
+    pub(crate) fn restart(&mut self, count: i64)
+        ensures { self.new ≡ new_barrier count }
+    {
+        self.count = count;
+        self.arrived.clear();
+        self.released.clear();
+    }
+
+    pub(crate) fn restart_all(barriers: &mut [Barrier], counts: &NumberList)
+        requires { length barriers.old ≡ length counts.now }
+        ensures { barriers.new ≡ map new_barrier counts.now }
+    {
+        for (place, count) in counts.as_slice().iter().enumerate() {
+            barriers[place].restart(*count);
+        }
+    }
+
     pub(crate) fn has_released(&self, thread: u32) -> bool
         requires { thread < MAX_THREADS }
         ensures { result ≡ is_released thread self.now.released }

@@ -49,6 +49,21 @@ impl Condition {
         Ok(conditions)
     }
 
+    pub(crate) fn restart(&mut self)
+        ensures { self.new ≡ new_condition }
+    {
+        self.waiting.clear();
+        self.woken.clear();
+    }
+
+    pub(crate) fn restart_all(conditions: &mut [Condition])
+        ensures { conditions.new ≡ replicate (length conditions.old) new_condition }
+    {
+        for condition in conditions.iter_mut() {
+            condition.restart();
+        }
+    }
+
     pub(crate) fn has_woken(&self, thread: u32) -> bool
         requires { thread < MAX_THREADS }
         ensures { result ≡ is_on thread self.now.woken }

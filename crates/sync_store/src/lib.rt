@@ -3,7 +3,8 @@
 //!
 //! What is proved, by call and clause; in parentheses the definitions:
 //!
-//! - The first store is that of its deal; whether a thread was started: `Store::new`: `first`,
+//! - The first store is that of its deal, also where a store of such sizes is used again in place;
+//!   whether a thread was started: `Store::new`: `first`, `sizes`; `Store::restart`: `first`,
 //!   `sizes`; `Store::is_started`.
 //! - `ready` says whether an ask is enabled, and Unknown exactly for a join of a thread whose next
 //!   post isn't known: `Store::ready`: `unknown`, `ready`.

@@ -33,6 +33,13 @@ impl Mutexes {
         })
     }
 
+    /// Makes all of them free.
+    pub(crate) fn restart(&mut self)
+        ensures { self.new ≡ replicate (length self.old) None }
+    {
+        self.owners.fill(None);
+    }
+
     pub(crate) fn is_free(&self, mutex: u32) -> bool
         requires { mutex < length self.now }
         ensures { result ≡ is_none (slice_index_or self.now mutex None) }

@@ -72,6 +72,12 @@ impl ReleaseList {
         }
     }
 
+    pub(crate) fn clear(&mut self)
+        ensures { self.new ≡ [] }
+    {
+        self.threads.clear();
+    }
+
     pub(crate) fn leave(&mut self, thread: u32)
         requires { thread < MAX_THREADS }
         ensures { self.new ≡ filter (λ release. not (thread == release.thread)) self.old }

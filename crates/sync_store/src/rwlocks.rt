@@ -1,5 +1,5 @@
 ghost use Rattle.std.specs.Prelude.{◌≡◌, ◌<◌, ◌+◌, if◌then◌else◌, is_some, is_none, nat_lt};
-ghost use Rattle.std.specs.Prelude.{length, replicate, slice_index, IfOk, MatchOption};
+ghost use Rattle.std.specs.Prelude.{ℕ, All, length, replicate, slice_index, IfOk, MatchOption};
 ghost use Rattle.sync_store.specs.Store.{new_rwlock, rwlock_of, with_rwlock};
 ghost use Rattle.sync_store.specs.Enabled.{is_unread};
 ghost use Rattle.sync_store.specs.Effect.{max_reads, with_writer, with_reads, after_unlock, effect};
@@ -53,6 +53,23 @@ impl ReadWriteLock {
             rwlocks.push(ReadWriteLock::new(alloc, threads)?)?;
         }
         Ok(rwlocks)
+    }
+
+    /// Makes it free.
+    pub(crate) fn restart(&mut self)
+        ensures { self.new ≡ new_rwlock (length self.old.reads) }
+    {
+        self.writer = None;
+        self.reads.fill(0);
+    }
+
+    pub(crate) fn restart_all(rwlocks: &mut [ReadWriteLock])
+        ensures { (threads : ℕ) → All (λ rwlock. length rwlock.reads ≡ threads) rwlocks.old
+            → rwlocks.new ≡ replicate (length rwlocks.old) (new_rwlock threads) }
+    {
+        for rwlock in rwlocks.iter_mut() {
+            rwlock.restart();
+        }
     }
 
     pub(crate) fn has_no_writer(&self) -> bool

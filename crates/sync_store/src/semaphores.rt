@@ -36,6 +36,14 @@ impl Semaphores {
         })
     }
 
+    /// Gives the semaphores these numbers, in the same memory.
+    pub(crate) fn restart(&mut self, numbers: &NumberList)
+        requires { length self.old ≡ length numbers.now }
+        ensures { self.new ≡ numbers.now }
+    {
+        self.numbers.copy_from_slice(numbers.as_slice());
+    }
+
     pub(crate) fn is_open(&self, sem: u32) -> bool
         requires { sem < length self.now }
         ensures { result ≡ int_lt (pos 0) (slice_index_or self.now sem (pos 0)) }

@@ -68,6 +68,21 @@ impl Store {
         })
     }
 
+    /// The store at the start of a run again, of a deal of the same sizes. Takes no memory.
+    pub fn restart(&mut self, deal: &Deal)
+        requires { sizes_of self.old ≡ sizes_of_deal deal.now }
+        ensures first { self.new ≡ first_store deal.now }
+        ensures sizes { sizes_of self.new ≡ sizes_of_deal deal.now }
+    {
+        self.variables.restart(&deal.vars);
+        self.mutexes.restart();
+        Condition::restart_all(self.conditions.as_mut_slice());
+        self.semaphores.restart(&deal.sems);
+        Barrier::restart_all(self.barriers.as_mut_slice(), &deal.barriers);
+        self.started.clear();
+        ReadWriteLock::restart_all(self.rwlocks.as_mut_slice());
+    }
+
     /// Whether a thread was started by another one.
     pub fn is_started(&self, thread: u32) -> bool
         requires { thread < self.now.threads }

@@ -34,6 +34,14 @@ impl Variables {
         })
     }
 
+    /// Gives the variables these values, in the same memory.
+    pub(crate) fn restart(&mut self, values: &NumberList)
+        requires { length self.old ≡ length values.now }
+        ensures { self.new ≡ values.now }
+    {
+        self.values.copy_from_slice(values.as_slice());
+    }
+
     pub(crate) fn read(&self, var: u32) -> i64
         requires { var < length self.now }
         ensures { result ≡ slice_index_or self.now var (pos 0) }
