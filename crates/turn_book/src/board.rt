@@ -88,6 +88,26 @@ impl Board {
         })
     }
 
+    /// Forgets all posts, over a deal of the same sizes. Takes no memory.
+    pub fn restart(&mut self, deal: &Deal)
+        requires { sizes_of self.old.store ≡ sizes_of_deal deal.now }
+        ensures board { self.new
+            ≡ record {
+              store = first_store deal.now;
+              posts = replicate deal.now.threads None;
+            } }
+        ensures sizes { sizes_of self.new.store ≡ sizes_of_deal deal.now }
+    {
+        self.store.restart(deal);
+        self.posts.fill(None);
+        self.standings.fill(Standing::Away);
+        self.chances.fill(Chance::Away);
+        self.joined = [false; MAX_THREADS];
+        self.waiters = 0;
+        self.lockers.fill(0);
+        self.stale = 0;
+    }
+
     pub fn standing(&self, thread: u32) -> Standing
         requires { thread < length self.now.posts }
         ensures { result ≡ standing_by (next_posts_of self.now.posts thread) }

@@ -7,6 +7,7 @@ ghost use Rattle.pct_ask.specs.declared.verdict.Outcome.{Outcome};
 ghost use Rattle.pct_ask.specs.Objects.{sizes_of_deal, PostIsInRange};
 ghost use Rattle.policy_pick.specs.declared.chance.Pick.{Pick};
 ghost use Rattle.policy_pick.specs.Plan.{SpeaksOf, GoesByRank};
+ghost use Rattle.turn_book.specs.Posts.{schedule_of};
 ghost use Rattle.turn_book.specs.Told.{BookState, new_book, standing_of, choice_of, IsLawful};
 ghost use Rattle.turn_book.specs.Told.{IsPosted, IsAnswered, IsRunOver};
 ghost use Rattle.turn_book.specs.declared.taken.Because.{Because};
@@ -20,6 +21,7 @@ use pct_ask::{Deal, Event, EventList, Outcome, Post, Sequence, Standing};
 use policy_pick::{Pick, Policy};
 use std::alloc::{AllocError as NoMemory, Global};
 use std::marker::Model;
+use std::mem;
 
 /// A book of turns. Threads post what they ask, and the policy says whose turn it is. A thread goes
 /// on as soon as that is known, also where others haven't posted. Contracts see a book as what it
@@ -93,6 +95,23 @@ impl<P: Policy> TurnBook<P> {
             next,
             outcome: None,
         })
+    }
+
+    /// Begins again by another policy, over the same deal and with the same limit, and gives back
+    /// the policy of before. Takes no memory.
+    pub fn restart(&mut self, policy: P) -> P
+        requires stands { P.stands policy [] }
+        requires speaks { SpeaksOf (P.plan policy) self.old.deal.threads }
+        ensures made { self.new ≡ new_book self.old.deal self.old.limit (P.plan policy) }
+        ensures plan { P.plan result ≡ self.old.plan }
+        ensures stands { P.stands result (schedule_of self.old.trace) }
+        ensures lawful { IsLawful self.new }
+    {
+        self.board.restart(&self.deal);
+        self.trace.clear();
+        self.next = self.board.pick(&policy);
+        self.outcome = None;
+        mem::replace(&mut self.policy, policy)
     }
 
     /// A thread posts. Where the run is over this changes nothing.

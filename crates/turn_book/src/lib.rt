@@ -7,8 +7,9 @@
 //!   `TurnBook::new`: `made`, `lawful`; `TurnBook::post`: `posted`, `over`, `lawful`;
 //!   `TurnBook::take`: `answered`, `unchanged`, `lawful`; `TurnBook::outcome`: `outcome`, `lawful`
 //!   (`outcome_after`, `rest_verdict`).
-//! - A book in the memory of a trace that nobody needs any more is as a new one:
-//!   `TurnBook::new_in`: `made`, `lawful`.
+//! - A book in the memory of a trace that nobody needs any more, or of the run before, is as a new
+//!   one, and the policy of before is given back: `TurnBook::new_in`: `made`, `lawful`;
+//!   `TurnBook::restart`: `made`, `lawful`, `plan`, `stands`.
 //! - The steps begin each whole run over these posts and any more, and are it once an outcome
 //!   stands: `TurnBook::trace`: `lawful`, `prefix`, `whole` (`IsRunOver`, `IsLawful.obeys`,
 //!   `IsLawful.outcome`).
