@@ -6,11 +6,11 @@ ghost use Rattle.rank_now.specs.Order.{IsOrder};
 ghost use Rattle.rank_now.specs.Ranking.{AreAbove, AreAboveButOne};
 ghost use Rattle.pct_ask.specs.declared.limits.TheConstants.{MAX_THREADS};
 
-use std::alloc::{AllocError, Global};
+use std::alloc::AllocError;
 
 /// Which threads have greater values than each one before the first step: those that the order
-/// names before it.
-pub fn first_above(alloc: Global, order: &[u32]) -> Result<Vec<u64>, AllocError>
+/// names before it. They are written into the vector that is given.
+pub fn first_above(mut above: Vec<u64>, order: &[u32]) -> Result<Vec<u64>, AllocError>
     requires order { IsOrder order.now }
     requires few_threads { length order.now ≤ MAX_THREADS }
     ensures { IfOk result (λ a.
@@ -19,7 +19,7 @@ pub fn first_above(alloc: Global, order: &[u32]) -> Result<Vec<u64>, AllocError>
         (map (λ t. count + length order.now - place_in_order order.now t) (threads_of order.now))
         a.items) }
 {
-    let mut above = vec![in alloc; 0u64; order.len()]?;
+    above.resize(order.len(), 0)?;
     let mut before = 0u64;
     for thread in order {
         above[*thread as usize] = before;

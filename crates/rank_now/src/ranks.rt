@@ -91,14 +91,44 @@ impl Ranks {
             (events : List Moment) → length events ≡ count
             → r.values ≡ ranks_by_events order.now events []) }
     {
-        let values = first_values(alloc, order, count)?;
-        let lowered = vec![in alloc; None; count as usize]?;
-        let above = first_above(alloc, order)?;
-        let order = Vec::from_slice(alloc, order)?;
+        let empty = Ranks {
+            order: Vec::new(alloc),
+            values: Vec::new(alloc),
+            lowered: Vec::new(alloc),
+            above: Vec::new(alloc),
+        };
+        empty.again(order, count)
+    }
+
+    /// The ranks of another order, as `of_order` gives them, in the memory of these. Memory is
+    /// taken only where that is too small.
+    pub fn again(mut self, order: &[u32], count: u32) -> Result<Ranks, AllocError>
+        requires order { IsOrder order.now }
+        requires few_threads { length order.now ≤ MAX_THREADS }
+        requires few_points { count ≤ MAX_POINTS }
+        ensures order { IfOk result (λ r. r.order ≡ order.now) }
+        ensures count { IfOk result (λ r. r.count ≡ count) }
+        ensures values { IfOk result (λ r.
+            r.values
+            ≡ map (λ t. count + length order.now - place_in_order order.now t)
+            (threads_of order.now)) }
+        ensures distinct { IfOk result (λ r. AreDistinctValues r.values) }
+        ensures by_points { IfOk result (λ r.
+            (points : List ℕ) → length points ≡ count → r.values ≡ ranks order.now points []) }
+        ensures by_events { IfOk result (λ r.
+            (events : List Moment) → length events ≡ count
+            → r.values ≡ ranks_by_events order.now events []) }
+    {
+        let values = first_values(self.values, order, count)?;
+        let above = first_above(self.above, order)?;
+        self.lowered.clear();
+        self.lowered.resize(count as usize, None)?;
+        self.order.clear();
+        self.order.extend_from_slice(order)?;
         Ok(Ranks {
-            order,
+            order: self.order,
             values,
-            lowered,
+            lowered: self.lowered,
             above,
         })
     }
@@ -209,8 +239,9 @@ fn free(lowered: &mut [Option<u32>], value: u32)
     }
 }
 
-/// The thread at place p of n has the value count + n - p.
-fn first_values(alloc: Global, order: &[u32], count: u32) -> Result<Vec<u32>, AllocError>
+/// The thread at place p of n has the value count + n - p. They are written into the vector that is
+/// given.
+fn first_values(mut values: Vec<u32>, order: &[u32], count: u32) -> Result<Vec<u32>, AllocError>
     requires order { IsOrder order.now }
     requires few_threads { length order.now ≤ MAX_THREADS }
     requires few_points { count ≤ MAX_POINTS }
@@ -218,7 +249,7 @@ fn first_values(alloc: Global, order: &[u32], count: u32) -> Result<Vec<u32>, Al
         v.items
         ≡ map (λ t. count + length order.now - place_in_order order.now t) (threads_of order.now)) }
 {
-    let mut values = vec![in alloc; 0; order.len()]?;
+    values.resize(order.len(), 0)?;
     for (place, thread) in order.iter().enumerate() {
         values[*thread as usize] = count + (order.len() - place) as u32;
     }
