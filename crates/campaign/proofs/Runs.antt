@@ -1,5 +1,5 @@
--- The tests of seeds have the seeds' runs, and their rows.
-use Rattle.std.proofs.Common.{◌≡◌, ℕ, List, Option, Some, Result, Ok, Err, length, sym, ap}
+-- The policies of seeds are of the seeds' runs, and their rows.
+use Rattle.std.proofs.Common.{◌≡◌, ℕ, List, Option, Some, Result, length, sym, ap}
 use Rattle.std.proofs.Common.{subst, ◌∙◌}
 use Rattle.std.specs.Prelude.{IfOk}
 use Rattle.std.specs.Option.{option_map}
@@ -8,34 +8,41 @@ use Rattle.pct_ask.specs.declared.verdict.Verdict.{Verdict}
 use Rattle.pct_ask.specs.declared.verdict.Outcome.{Outcome}
 use Rattle.pct_ask.specs.declared.verdict.Outcome.TheVariants.{Verdict as Ends}
 use Rattle.policy_pick.specs.Kept.{PointsKept, points_plan}
+use Rattle.policy_pick.specs.Plan.{ByPoints}
 use Rattle.priority_draw.specs.Drawing.{draw_of_seed}
-use Rattle.script_body.specs.BodyPosts.{pending_of_body}
-use Rattle.script_body.specs.declared.body.ScriptBody.{ScriptBody}
-use Rattle.worker_run.specs.Run.{Run}
-use Rattle.worker_run.specs.declared.batch.Test.{Test}
+use Rattle.worker_run.specs.Run.{Run, run}
+use Rattle.worker_run.specs.Played.{IsRun}
 use Rattle.worker_run.specs.declared.played.Played.{Played}
-use Rattle.script_run.specs.Tests.{Tries, IsRunByPoints}
+use Rattle.script_run.specs.Batches.{IsPlanOf}
+use Rattle.script_run.proofs.Laws.{by_points}
 use Rattle.campaign.specs.Rows.{Setup, row_of_run, row_of_seed}
-use Rattle.campaign.specs.Batches.{IsSeedRun}
+use Rattle.campaign.specs.Batches.{common_of_campaign, setup_of_campaign, IsSeedRun}
+use Rattle.campaign.specs.declared.common.Campaign.{Campaign}
 
--- a test that was made of what the seed gives has its run
-pub seed-tried : {E : Type 0} (setup : Setup) (seed other : ℕ)
-    (made : Result (Test PointsKept ScriptBody) E) (order points : List ℕ)
-    → order ≡ (draw_of_seed seed setup.deal.threads setup.steps setup.depth).order
-    → points ≡ (draw_of_seed seed setup.deal.threads setup.steps setup.depth).points
-    → seed ≡ other
-    → IfOk made (Tries pending_of_body points_plan
-    (IsRunByPoints setup.deal setup.bodies order points setup.limit))
-    → IfOk made (Tries pending_of_body points_plan (IsSeedRun setup other))
-seed-tried setup seed other (Ok test) order points ordered pointed same tries = λ played ran.
-    let R : List ℕ → List ℕ → Type 0 =
-    λ o ps. IsRunByPoints setup.deal setup.bodies o ps setup.limit played in
+-- a policy that was made of what the seed gives is of its run
+pub seed-planned : {E : Type 0} (campaign : Campaign) (seed other : ℕ) (made : Result PointsKept E)
+    (order points : List ℕ)
+    → order ≡ (draw_of_seed seed campaign.script.deal.now.threads campaign.steps
+    campaign.depth).order
+    → points ≡ (draw_of_seed seed campaign.script.deal.now.threads campaign.steps
+    campaign.depth).points
+    → seed ≡ other → length order ≡ campaign.script.deal.now.threads
+    → IfOk made (λ p. points_plan p ≡ ByPoints order points)
+    → IfOk made (λ p. IsPlanOf (common_of_campaign campaign)
+    (IsSeedRun (setup_of_campaign campaign) other) (points_plan p))
+seed-planned campaign seed other made order points ordered pointed same whole is =
+    let setup = setup_of_campaign campaign in
     let gives = draw_of_seed seed setup.deal.threads setup.steps setup.depth in
-    let is = subst (λ o. R o gives.points) ordered (subst (R order) pointed (tries played ran)) in
-    let S : ℕ → Type 0 = λ s. IsSeedRun setup s played in
-    subst S same
-    (record { run = is.run; short = is.played.obeys.within })
-seed-tried setup seed other (Err e) order points ordered pointed same tries = tt
+    by_points points_plan (common_of_campaign campaign) (IsSeedRun setup other) order whole points
+    made
+    (λ ended ran short.
+    let R : List ℕ → List ℕ → Type 0 =
+    λ o ps. IsRun (run setup.deal setup.bodies o ps setup.limit) ended.events ended.outcome in
+    subst (λ s. IsSeedRun setup s ended) same (record {
+      run = subst (λ o. R o gives.points) ordered (subst (R order) pointed ran);
+      short = short;
+    }))
+    is
 
 one-verdict : (outcome : Outcome) (v w : Verdict) → outcome ≡ Ends v → outcome ≡ Ends w → v ≡ w
 one-verdict outcome v w a b = let same : Ends v ≡ Ends w = sym a ∙ b in cc

@@ -7,6 +7,7 @@ use Rattle.script_code.specs.Listing.{listing}
 use Rattle.worker_run.specs.Played.{IsRun}
 use Rattle.worker_run.specs.declared.played.Played.{Played}
 use Rattle.script_run.specs.Ready.{bodies_of_code}
+use Rattle.script_run.specs.Batches.{Common}
 use Rattle.campaign.specs.Rows.{Setup, run_of_seed, rows_of}
 use Rattle.campaign.specs.declared.common.Campaign.{Campaign}
 
@@ -17,6 +18,14 @@ setup_of_campaign campaign = record {
   bodies = bodies_of_code (listing campaign.script.code.now);
   depth = campaign.depth;
   steps = campaign.steps;
+  limit = campaign.limit;
+}
+
+-- the same of the batch that they are
+abbrev pub common_of_campaign : Campaign → Common
+common_of_campaign campaign = record {
+  code = listing campaign.script.code.now;
+  deal = campaign.script.deal.now;
   limit = campaign.limit;
 }
 

@@ -52,7 +52,7 @@ fn leave_out<R: Threads + Wait + Sync, G: Gate>(
         };
         let whole = ready.run_by_moments(rt, alloc, &left, limit, Serve::Threads, gate)?;
         if whole.verdict.is(verdict) {
-            let steps = step_count(&whole.events, limit);
+            let steps = step_count(whole.events.as_slice(), limit);
             return Ok(Some(Short {
                 moments: rest,
                 steps,

@@ -1,5 +1,5 @@
--- The tests of orders have the orders' directed runs.
-use Rattle.std.proofs.Common.{◌≡◌, ℕ, List, Option, Some, Result, Ok, Err, sym, ap, subst}
+-- The policies of orders are of the orders' directed runs.
+use Rattle.std.proofs.Common.{◌≡◌, ℕ, List, Option, Some, Result, length, sym, ap, subst}
 use Rattle.std.proofs.Common.{◌∙◌}
 use Rattle.std.specs.Prelude.{IfOk}
 use Rattle.pct_ask.specs.declared.event.Event.{Event}
@@ -8,31 +8,36 @@ use Rattle.pct_ask.specs.declared.verdict.Outcome.{Outcome}
 use Rattle.pct_ask.specs.declared.verdict.Outcome.TheVariants.{Verdict as Ends}
 use Rattle.policy_pick.specs.Kept.{EventsKept, events_plan}
 use Rattle.rank_now.specs.declared.moment.Moment.{Moment}
-use Rattle.script_body.specs.BodyPosts.{pending_of_body}
-use Rattle.script_body.specs.declared.body.ScriptBody.{ScriptBody}
-use Rattle.worker_run.specs.Run.{Run}
+use Rattle.policy_pick.specs.Plan.{ByEvents}
+use Rattle.worker_run.specs.Run.{Run, directed_run}
 use Rattle.worker_run.specs.Played.{IsRun}
-use Rattle.worker_run.specs.declared.batch.Test.{Test}
-use Rattle.script_run.specs.Tests.{Tries, IsRunByMoments}
-use Rattle.directive_run.specs.Tested.{DirectedSetup, IsOrderAt, IsRunAt}
+use Rattle.script_run.specs.Batches.{IsPlanOf}
+use Rattle.script_run.proofs.Laws.{by_moments}
+use Rattle.directive_run.specs.declared.claim.Claim.{Claim}
+use Rattle.directive_run.specs.Tested.{common_of_claim, directed_setup, IsOrderAt, IsRunAt}
 
--- a test that was made of the order at the place has its run
-pub order-tried : {E : Type 0} (setup : DirectedSetup) (place : ℕ)
-    (made : Result (Test EventsKept ScriptBody) E) (order slice : List ℕ) (moments : List Moment)
-    → IsOrderAt setup place order → slice ≡ order → moments ≡ setup.directive.events
-    → IfOk made (Tries pending_of_body events_plan
-    (IsRunByMoments setup.deal setup.bodies slice moments setup.limit))
-    → IfOk made (Tries pending_of_body events_plan (IsRunAt setup place))
-order-tried setup place (Ok test) order slice moments here same as_moments tries =
-    λ played ran other at.
+-- a policy that was made of the order at the place is of its run
+pub order-planned : {E : Type 0} (claim : Claim) (place : ℕ) (made : Result EventsKept E)
+    (order slice : List ℕ) (moments : List Moment)
+    → IsOrderAt (directed_setup claim) place order → slice ≡ order
+    → moments ≡ claim.directive.now.events → length slice ≡ claim.script.deal.now.threads
+    → IfOk made (λ p. events_plan p ≡ ByEvents slice moments)
+    → IfOk made (λ p. IsPlanOf (common_of_claim claim) (IsRunAt (directed_setup claim) place)
+    (events_plan p))
+order-planned claim place made order slice moments here same as_moments whole is =
+    let setup = directed_setup claim in
+    by_moments events_plan (common_of_claim claim) (IsRunAt setup place) slice whole moments made
+    (λ ended ran short other at.
     let both : Some order ≡ Some other = sym here ∙ at in
     let one : order ≡ other = cc in
     let R : List ℕ → List Moment → Type 0 =
-    λ o es. IsRunByMoments setup.deal setup.bodies o es setup.limit played in
-    let is = subst (λ o. R o setup.directive.events) (same ∙ one)
-    (subst (R slice) as_moments (tries played ran)) in
-    record { run = is.directed; short = is.played.obeys.within }
-order-tried setup place (Err e) order slice moments here same as_moments tries = tt
+    λ o es. IsRun (directed_run setup.deal setup.bodies o es setup.limit) ended.events
+    ended.outcome in
+    record {
+      run = subst (λ o. R o setup.directive.events) (same ∙ one) (subst (R slice) as_moments ran);
+      short = short;
+    })
+    is
 
 -- a run that a verdict ended has that verdict
 pub ended-run : (of : Option Run) (events : List Event) (outcome : Outcome) (verdict : Verdict)

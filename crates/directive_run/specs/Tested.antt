@@ -12,6 +12,7 @@ use Rattle.worker_run.specs.Run.{Run, directed_run}
 use Rattle.worker_run.specs.Played.{IsRun}
 use Rattle.worker_run.specs.declared.played.Played.{Played}
 use Rattle.script_run.specs.Ready.{bodies_of_code}
+use Rattle.script_run.specs.Batches.{Common}
 use Rattle.directive.specs.declared.directive.Directive.{Directive}
 use Rattle.directive_run.specs.Exposing.{RunsTooLong}
 use Rattle.choices.specs.Orders.{low_orders}
@@ -42,6 +43,14 @@ directed_setup claim = record {
   bodies = bodies_of_code (listing claim.script.code.now);
   directive = claim.directive.now;
   steps = claim.steps;
+  limit = claim.limit;
+}
+
+-- the same of the batches that they are made in
+abbrev pub common_of_claim : Claim → Common
+common_of_claim claim = record {
+  code = listing claim.script.code.now;
+  deal = claim.script.deal.now;
   limit = claim.limit;
 }
 

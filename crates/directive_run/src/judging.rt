@@ -4,9 +4,9 @@ ghost use Rattle.directive_run.specs.Tested.{directed_setup, Tells, IsOrderRun};
 
 use crate::claim::Claim;
 use choices::points_of;
-use pct_ask::{PointList, Verdict};
+use pct_ask::{Event, Outcome, PointList, Verdict};
 use std::alloc::{AllocError as NoMemory, Global};
-use worker_run::{Played, step_count};
+use worker_run::{step_count, verdict_of};
 
 /// What one order leads to.
 #[derive(Drop)]
@@ -20,13 +20,20 @@ pub enum Tested {
 }
 
 /// What an order leads to, by its directed run.
-pub fn test_run(alloc: Global, claim: &Claim<'_, '_>, played: &Played) -> Result<Tested, NoMemory>
-    requires run { (order : List ℕ) × IsOrderRun (directed_setup claim.now) order played.now }
-    ensures { (order : List ℕ) → IsOrderRun (directed_setup claim.now) order played.now
+pub fn test_run(
+    alloc: Global,
+    claim: &Claim<'_, '_>,
+    events: &[Event],
+    outcome: &Outcome,
+) -> Result<Tested, NoMemory>
+    requires run { (order : List ℕ) × IsOrderRun (directed_setup claim.now) order
+        (record { events = events.now; outcome = outcome.now }) }
+    ensures { (order : List ℕ) → IsOrderRun (directed_setup claim.now) order
+        (record { events = events.now; outcome = outcome.now })
         → IfOk result (Tells (directed_setup claim.now) order) }
 {
-    let verdict = played.verdict();
-    let many = step_count(&played.events, claim.limit);
+    let verdict = verdict_of(outcome);
+    let many = step_count(events, claim.limit);
     let most = claim.steps.steps();
     if many > most {
         return Ok(Tested::TooLong(many));
@@ -35,5 +42,5 @@ pub fn test_run(alloc: Global, claim: &Claim<'_, '_>, played: &Played) -> Result
         return Ok(Tested::Other(verdict));
     }
     let moments = claim.directive.events.as_slice();
-    Ok(Tested::Led(points_of(alloc, played.events.as_slice(), most, moments)?))
+    Ok(Tested::Led(points_of(alloc, events, most, moments)?))
 }

@@ -1,4 +1,3 @@
 pub mod Moments
-pub mod Orders
 pub mod Walks
 pub mod laws

@@ -1,5 +1,5 @@
 ghost use Rattle.std.specs.Prelude.{◌≡◌, ℕ, ◌≤◌, ◌==◌, ◌&&◌, [], length, IfOk, ◌↔◌};
-ghost use Rattle.rank_now.specs.Order.{IsOrder, IsFirstWrong};
+ghost use Rattle.rank_now.specs.Order.{IsFirstWrong};
 ghost use Rattle.rank_now.specs.Positions.{last_position};
 ghost use Rattle.policy_pick.specs.Plan.{ByEvents};
 ghost use Rattle.policy_pick.specs.Kept.{events_plan, EventsStand};
@@ -7,6 +7,7 @@ ghost use Rattle.pct_ask.specs.declared.limits.TheConstants.{MAX_POINTS, MAX_THR
 
 use crate::chance::{Chance, Pick};
 use crate::policy::Policy;
+use crate::priorities::DirectedPriorities;
 use crate::walk::pick_by_rank;
 use rank_now::{Moment, RankError, Ranks, first_wrong};
 use std::alloc::{AllocError as NoMemory, Global};
@@ -50,26 +51,51 @@ impl DirectedPolicy {
     {
         match first_wrong(order) {
             Some(at) => Err(RankError::NotAnOrder { at }),
-            None => Ok(DirectedPolicy::of_order(alloc, order, events)?),
+            None => {
+                let priorities = DirectedPriorities {
+                    order,
+                    moments: events,
+                };
+                Ok(DirectedPolicy::of_priorities(alloc, &priorities)?)
+            }
         }
     }
 
-    /// The same of a list that is an order.
-    pub fn of_order(
+    /// The policy of priorities.
+    pub fn of_priorities(
         alloc: Global,
-        order: &[u32],
-        events: &[Moment],
+        priorities: &DirectedPriorities<'_>,
     ) -> Result<DirectedPolicy, NoMemory>
-        requires order { IsOrder order.now }
-        requires few_threads { length order.now ≤ MAX_THREADS }
-        requires few_events { length events.now ≤ MAX_POINTS }
-        ensures plan { IfOk result (λ p. events_plan p ≡ ByEvents order.now events.now) }
+        requires few_threads { length priorities.now.order.now ≤ MAX_THREADS }
+        ensures plan { IfOk result (λ p.
+            events_plan p ≡ ByEvents priorities.now.order.now priorities.now.moments.now) }
         ensures stands { IfOk result (λ p. EventsStand p []) }
     {
-        let ranks = Ranks::of_order(alloc, order, events.len() as u32)?;
-        let own = vec![in alloc; 0; order.len()]?;
-        let events = Vec::from_slice(alloc, events)?;
+        let ranks = Ranks::of_order(alloc, priorities.order, priorities.moments.len() as u32)?;
+        let own = vec![in alloc; 0; priorities.order.len()]?;
+        let events = Vec::from_slice(alloc, priorities.moments)?;
         Ok(DirectedPolicy { events, ranks, own })
+    }
+
+    /// The same in the memory of this policy, which nobody needs any more. Memory is taken only
+    /// where that is too small.
+    pub fn again(mut self, priorities: &DirectedPriorities<'_>) -> Result<DirectedPolicy, NoMemory>
+        requires few_threads { length priorities.now.order.now ≤ MAX_THREADS }
+        ensures plan { IfOk result (λ p.
+            events_plan p ≡ ByEvents priorities.now.order.now priorities.now.moments.now) }
+        ensures stands { IfOk result (λ p. EventsStand p []) }
+    {
+        let count = priorities.moments.len() as u32;
+        let ranks = self.ranks.again(priorities.order, count)?;
+        self.own.clear();
+        self.own.resize(priorities.order.len(), 0)?;
+        self.events.clear();
+        self.events.extend_from_slice(priorities.moments)?;
+        Ok(DirectedPolicy {
+            events: self.events,
+            ranks,
+            own: self.own,
+        })
     }
 }
 

@@ -6,10 +6,13 @@
 //! - Each pick is the choice of its plan after the steps so far; a picked thread is ready, one that
 //!   is waited for is away, and where nobody is picked nobody can go on: `Policy::pick`: `choice`,
 //!   `sound` (`IsSoundPick`).
-//! - A step counts as one: `Policy::took`: `plan`, `stands`; made by `Pct::new`: `plan`, `stands`,
-//!   `not_an_order`; `DirectedPolicy::new`: `plan`, `stands`, `not_an_order`; of a list that is an
-//!   order by `Pct::of_order`: `plan`, `stands`; `DirectedPolicy::of_order`: `plan`, `stands`;
-//!   `Listed::new`: `plan`, `stands`.
+//! - A step counts as one: `Policy::took`: `plan`, `stands`. Made of plain lists: `Pct::new`:
+//!   `plan`, `stands`, `not_an_order`; `DirectedPolicy::new`: `plan`, `stands`, `not_an_order`;
+//!   `Listed::new`: `plan`, `stands`. Made of an order that is one and of few points
+//!   (`Priorities`) or moments (`DirectedPriorities`): `Pct::of_priorities`: `plan`, `stands`;
+//!   `DirectedPolicy::of_priorities`: `plan`, `stands`; the same in the memory of a policy that
+//!   nobody needs any more: `Pct::again`: `plan`, `stands`; `DirectedPolicy::again`: `plan`,
+//!   `stands`.
 //! - Where it answers that a thread outranks others, each of them but itself has a lower rank:
 //!   `Policy::outranks`, its clause (`Outranks`).
 //! - A choice that waits for nobody stays as more becomes known: `Policy`: `keeps`.

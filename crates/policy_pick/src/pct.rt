@@ -1,5 +1,5 @@
 ghost use Rattle.std.specs.Prelude.{◌≡◌, ℕ, ◌≤◌, [], length, IfOk, ◌↔◌};
-ghost use Rattle.rank_now.specs.Order.{IsOrder, IsFirstWrong};
+ghost use Rattle.rank_now.specs.Order.{IsFirstWrong};
 ghost use Rattle.rank_now.specs.Rank.{index_of_point};
 ghost use Rattle.policy_pick.specs.Plan.{ByPoints};
 ghost use Rattle.policy_pick.specs.Kept.{points_plan, PointsStand};
@@ -7,6 +7,7 @@ ghost use Rattle.pct_ask.specs.declared.limits.TheConstants.{MAX_POINTS, MAX_THR
 
 use crate::chance::{Chance, Pick};
 use crate::policy::Policy;
+use crate::priorities::Priorities;
 use crate::walk::pick_by_rank;
 use rank_now::{RankError, Ranks, first_wrong};
 use std::alloc::{AllocError as NoMemory, Global};
@@ -51,22 +52,40 @@ impl Pct {
     {
         match first_wrong(order) {
             Some(at) => Err(RankError::NotAnOrder { at }),
-            None => Ok(Pct::of_order(alloc, order, points)?),
+            None => Ok(Pct::of_priorities(alloc, &Priorities { order, points })?),
         }
     }
 
-    /// The same of a list that is an order.
-    pub fn of_order(alloc: Global, order: &[u32], points: &[u32]) -> Result<Pct, NoMemory>
-        requires order { IsOrder order.now }
-        requires few_threads { length order.now ≤ MAX_THREADS }
-        requires few_points { length points.now ≤ MAX_POINTS }
-        ensures plan { IfOk result (λ p. points_plan p ≡ ByPoints order.now points.now) }
+    /// The policy of priorities.
+    pub fn of_priorities(alloc: Global, priorities: &Priorities<'_>) -> Result<Pct, NoMemory>
+        requires few_threads { length priorities.now.order.now ≤ MAX_THREADS }
+        ensures plan { IfOk result (λ p.
+            points_plan p ≡ ByPoints priorities.now.order.now priorities.now.points.now) }
         ensures stands { IfOk result (λ p. PointsStand p []) }
     {
-        let ranks = Ranks::of_order(alloc, order, points.len() as u32)?;
-        let points = Vec::from_slice(alloc, points)?;
+        let ranks = Ranks::of_order(alloc, priorities.order, priorities.points.len() as u32)?;
+        let points = Vec::from_slice(alloc, priorities.points)?;
         Ok(Pct {
             points,
+            ranks,
+            taken: 0,
+        })
+    }
+
+    /// The same in the memory of this policy, which nobody needs any more. Memory is taken only
+    /// where that is too small.
+    pub fn again(mut self, priorities: &Priorities<'_>) -> Result<Pct, NoMemory>
+        requires few_threads { length priorities.now.order.now ≤ MAX_THREADS }
+        ensures plan { IfOk result (λ p.
+            points_plan p ≡ ByPoints priorities.now.order.now priorities.now.points.now) }
+        ensures stands { IfOk result (λ p. PointsStand p []) }
+    {
+        let count = priorities.points.len() as u32;
+        let ranks = self.ranks.again(priorities.order, count)?;
+        self.points.clear();
+        self.points.extend_from_slice(priorities.points)?;
+        Ok(Pct {
+            points: self.points,
             ranks,
             taken: 0,
         })

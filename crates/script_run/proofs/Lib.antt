@@ -2,3 +2,4 @@ pub mod Laws
 pub mod Codes
 pub mod Runs
 pub mod Places
+pub mod Sets

@@ -50,13 +50,6 @@ module _ {P : Type 0} {B : Type 0} {E : Type 0} (pending : B → Pending) (plan 
       try i found.0 found.1 played (ran.each i found.0 played found.1 at)
   all-ran first tests (Err e) try ran = tt
 
-  -- and of one that was made by itself
-  pub one-ran : (place : ℕ) (test : Test P B) (made : Result Played E)
-      → Tries pending plan (Asked place) test → IfOk made (IsRunOf pending plan test)
-      → IfOk made (Asked place)
-  one-ran place test (Ok played) try ran = try played ran
-  one-ran place test (Err e) try ran = tt
-
   pub as-many : (first end : ℕ) (tests : List (Test P B)) (made : Result (Vec Played Global) E)
       → first + length tests ≡ end
       → IfOk made (λ runs. Each (IsRunOf pending plan) tests runs.items)

@@ -1,36 +1,42 @@
 //! Batches of runs, which are made at once by threads, or one after another by the caller.
 
 ghost use Rattle.std.specs.Prelude.{◌≡◌, ◌≤◌, ◌<◌, ◌+◌, length, IfOk};
+ghost use Rattle.script_body.specs.BodyPosts.{pending_of_body};
 ghost use Rattle.worker_run.specs.Tests.{AreTests};
 ghost use Rattle.script_run.specs.Tests.{Tries};
 ghost use Rattle.script_run.specs.Batches.{Decides, FromPlace};
 
+use crate::alone::run_alone;
 use crate::batch::Batch;
 use pct_outside::Gate;
+use script_body::ScriptBody;
 use std::alloc::{AllocError as NoMemory, Global};
 use std::sync::Wait;
 use std::thread::Threads;
-use worker_run::{Played, Serving, Test, run_by_caller, run_many_by};
+use worker_run::{Played, Serving, Test, run_many_by};
 
 /// The tests from one place to before another.
-fn tests_of<T: Batch>(
+fn tests_of<'b, T: Batch>(
     alloc: Global,
-    batch: &T,
+    batch: &'b T,
     start: u32,
     end: u32,
-) -> Result<Vec<Test<T::Policy, T::Body>>, NoMemory>
+) -> Result<Vec<Test<T::Policy, ScriptBody<'b>>>, NoMemory>
     requires places { start ≤ end }
     requires within { end ≤ T.size batch.now }
     ensures long { IfOk result (λ tests. start + length tests.items ≡ end) }
     ensures asked { IfOk result
-        (λ tests. AreTests T.Body.pending T.Policy.plan T.Policy.stands tests.items) }
+        (λ tests. AreTests pending_of_body T.Policy.plan T.Policy.stands tests.items) }
     ensures tests { IfOk result (λ tests. FromPlace
-        (λ place. Tries T.Body.pending T.Policy.plan (T.is_run batch.now place))
+        (λ place. Tries pending_of_body T.Policy.plan (T.is_run batch.now place))
         start tests.items) }
 {
+    let script = batch.script();
+    let limit = batch.limit();
     let mut tests = Vec::with_capacity(alloc, (end - start) as usize)?;
     for place in start..end {
-        let test = batch.test(alloc, place)?;
+        let policy = batch.policy(alloc, place, None)?;
+        let test = script.test(alloc, policy, limit)?;
         tests.push_reserved(test);
     }
     Ok(tests)
@@ -73,52 +79,10 @@ fn take_runs<T: Batch>(
 {
     for place in start..end {
         let played = &runs[(place - start) as usize];
-        if let Some(answer) = batch.take(alloc, kept, place, played)? {
+        let events = played.events.as_slice();
+        if let Some(answer) = batch.take(alloc, kept, place, events, &played.outcome)? {
             return Ok(Some(answer));
         }
-    }
-    Ok(None)
-}
-
-/// The run at a place, made by the caller.
-fn run_of<R: Wait, T: Batch, G: Gate>(
-    rt: &R,
-    alloc: Global,
-    batch: &T,
-    place: u32,
-    serving: &mut Serving,
-    gate: &G,
-) -> Result<Played, NoMemory>
-    requires { place < T.size batch.now }
-    ensures { IfOk result (T.is_run batch.now place) }
-{
-    let test = batch.test(alloc, place)?;
-    run_by_caller(rt, alloc, test, serving, gate)
-}
-
-/// Makes the runs from one place to before another by the caller, and takes each before the next is
-/// made, up to one that comes to an answer.
-fn run_alone<R: Wait, T: Batch, G: Gate>(
-    rt: &R,
-    alloc: Global,
-    batch: &T,
-    kept: &mut T::Kept,
-    start: u32,
-    end: u32,
-    serving: &mut Serving,
-    gate: &G,
-) -> Result<Option<T::Answer>, NoMemory>
-    requires places { start ≤ end }
-    requires within { end ≤ T.size batch.now }
-    requires stands { T.stands batch.now kept.old start }
-    ensures { IfOk result (Decides (T.stands batch.now) (T.answers batch.now) kept.new end) }
-{
-    for place in start..end {
-        let played = run_of(rt, alloc, batch, place, serving, gate)?;
-        if let Some(answer) = batch.take(alloc, kept, place, &played)? {
-            return Ok(Some(answer));
-        }
-        serving.take_back(played)?;
     }
     Ok(None)
 }

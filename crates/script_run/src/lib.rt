@@ -7,18 +7,24 @@
 //!   the directed run, whoever serves: `ReadyScript::run_by_points`: `run`, `played`, `few`;
 //!   `ReadyScript::run_by_moments`: `directed`, `few` (`run`, `directed_run`, `AreOf`); said of its
 //!   code in both: `code` (`bodies_of_code`).
-//! - So are the runs of its tests: `ReadyScript::test_by_points`: `run`, `asked`;
-//!   `ReadyScript::test_by_moments`: `run`, `asked` (`Tries`, `IsRunByPoints`, `IsRunByMoments`).
+//! - The run of its test by a policy is what the policy makes of its threads: `ReadyScript::test`:
+//!   `run`, `asked` (`Tries`, `IsRunBy`).
 //! - The runs of a batch are taken in their order, each once, as the run that its place has, up to
 //!   the first that comes to an answer, whoever serves: `run_batch`, its clause (`Decides`), over
-//!   what is asked of `Batch::test`: `asked`, `run`; `Batch::take`, its clause.
+//!   what is asked of `Batch::script`: `code`, `deal`; `Batch::limit`, its clause;
+//!   `Batch::policy`: `stands`, `plan` (`IsPlanOf`); `Batch::take`, its clause. A policy is made of
+//!   priorities, in the memory of another one: `pct_by`: `plan`, `stands`; `directed_by`: `plan`,
+//!   `stands`.
 #![tactic(auto)]
 
+mod alone;
 mod batch;
 mod batches;
+mod policies;
 mod ready;
 mod running;
 
 pub use batch::Batch;
 pub use batches::run_batch;
+pub use policies::{directed_by, pct_by};
 pub use ready::ReadyScript;

@@ -15,7 +15,7 @@ ghost use Rattle.script_run.specs.Ready.{bodies_of_code};
 use crate::ready::ReadyScript;
 use pct_ask::{Body, Limit};
 use pct_outside::Gate;
-use policy_pick::{DirectedPriorities, Policy, Priorities};
+use policy_pick::{DirectedPolicy, DirectedPriorities, Pct, Policy, Priorities};
 use std::alloc::{AllocError as NoMemory, Global};
 use std::sync::Wait;
 use std::thread::Threads;
@@ -80,7 +80,8 @@ impl ReadyScript<'_> {
             (Outcome.Verdict whole.verdict)) }
         ensures few { IfOk result (λ whole. length whole.events ≤ limit) }
     {
-        let test = self.test_by_points(alloc, priorities, limit)?;
+        let policy = Pct::of_priorities(alloc, priorities)?;
+        let test = self.test(alloc, policy, limit)?;
         let played = run_test(rt, alloc, test, serve, gate)?;
         Ok(played.into_whole())
     }
@@ -107,7 +108,8 @@ impl ReadyScript<'_> {
             ≡ Some (whole.events, whole.verdict)) }
         ensures few { IfOk result (λ whole. length whole.events ≤ limit) }
     {
-        let test = self.test_by_moments(alloc, priorities, limit)?;
+        let policy = DirectedPolicy::of_priorities(alloc, priorities)?;
+        let test = self.test(alloc, policy, limit)?;
         let played = run_test(rt, alloc, test, serve, gate)?;
         Ok(played.into_whole())
     }

@@ -7,6 +7,7 @@ use Rattle.worker_run.specs.Run.{Run}
 use Rattle.worker_run.specs.Played.{IsRun}
 use Rattle.worker_run.specs.declared.played.Played.{Played}
 use Rattle.script_run.specs.Ready.{bodies_of_code}
+use Rattle.script_run.specs.Batches.{Common}
 use Rattle.failure_rank.specs.Growing.{IsTally}
 use Rattle.failure_rank.specs.declared.tally.Tally.{Tally}
 use Rattle.sweep.specs.declared.choice.Choice.{Choice}
@@ -24,6 +25,14 @@ setup_of_sweep sweep = record {
   bodies = bodies_of_code (listing sweep.script.code.now);
   many = sweep.points;
   steps = sweep.steps;
+  limit = sweep.limit;
+}
+
+-- the same of the batches that they are made in
+abbrev pub common_of_sweep : Sweep → Common
+common_of_sweep sweep = record {
+  code = listing sweep.script.code.now;
+  deal = sweep.script.deal.now;
   limit = sweep.limit;
 }
 

@@ -1,9 +1,12 @@
 // The choices that come next, whose runs are made in a batch and counted.
 ghost use Rattle.std.specs.Prelude.{◌≡◌, ◌≤◌, ◌<◌, ◌+◌, ◌++◌, ◌^◌, List, length, replicate, IfOk};
-ghost use Rattle.std.specs.Prelude.{OnOk, Some, slice_get};
+ghost use Rattle.std.specs.Prelude.{OnOk, Some, [], slice_get};
+ghost use Rattle.policy_pick.specs.Kept.{points_plan, PointsStand};
+ghost use Rattle.script_run.specs.Batches.{IsPlanOf};
 ghost use Rattle.pct_ask.specs.declared.event.Row.{Row};
 ghost use Rattle.failure_rank.specs.Growing.{IsTally};
-ghost use Rattle.sweep.specs.Batches.{setup_of_sweep, IsRunAt, HasCounted, AreAbove};
+ghost use Rattle.sweep.specs.Batches.{common_of_sweep, setup_of_sweep, IsRunAt, HasCounted};
+ghost use Rattle.sweep.specs.Batches.{AreAbove};
 ghost use Rattle.sweep.specs.Batches.{IsRunOfNext, HasCountedNext, HasCountedLonger};
 
 use crate::ahead::{choices_ahead, stands_for};
@@ -11,15 +14,14 @@ use crate::choice::choice_at;
 use crate::common::{Reach, Sweep};
 use crate::next::{Counts, NextRuns};
 use failure_rank::Tally;
-use pct_ask::Row;
+use pct_ask::{Event, Limit, Outcome, Row};
 use pct_outside::Gate;
 use policy_pick::{Pct, Priorities};
-use script_body::ScriptBody;
-use script_run::{Batch, run_batch};
+use script_run::{Batch, ReadyScript, pct_by, run_batch};
 use std::alloc::{AllocError as NoMemory, Global};
 use std::sync::Wait;
 use std::thread::Threads;
-use worker_run::{Played, Serving, Test, step_count};
+use worker_run::{Serving, step_count, verdict_of};
 
 /// Counts a row so many times.
 fn add_copies(tally: &mut Tally, row: &Row, times: u32) -> Result<(), NoMemory>
@@ -39,22 +41,24 @@ fn count_run(
     tally: &mut Tally,
     reach: Reach,
     place: u32,
-    played: &Played,
+    events: &[Event],
+    outcome: &Outcome,
 ) -> Result<Reach, NoMemory>
     requires ahead { reach.place ≤ place }
     requires place { place < sweep.now.choices }
     requires above { AreAbove (setup_of_sweep sweep.now) reach.longest reach.place place }
-    requires run { IsRunAt (setup_of_sweep sweep.now) place played.now }
+    requires run { IsRunAt (setup_of_sweep sweep.now) place
+        (record { events = events.now; outcome = outcome.now }) }
     requires before { HasCounted (setup_of_sweep sweep.now) reach tally.old }
     ensures place { IfOk result (λ now. now.place ≡ place + 1) }
     ensures longest { IfOk result (λ now. reach.longest ≤ now.longest) }
     ensures counted { IfOk result (λ now. HasCounted (setup_of_sweep sweep.now) now tally.new) }
 {
-    let steps = step_count(&played.events, sweep.limit);
+    let steps = step_count(events, sweep.limit);
     let row = Row {
         seed: u64::from(place),
         steps,
-        verdict: played.verdict(),
+        verdict: verdict_of(outcome),
     };
     add_copies(tally, &row, stands_for(sweep, place, steps.max(1)))?;
     Ok(Reach {
@@ -63,16 +67,16 @@ fn count_run(
     })
 }
 
-impl<'n> Batch for NextRuns<'n> {
+impl Batch for NextRuns<'_> {
     type Policy = Pct;
-
-    type Body = ScriptBody<'n>;
 
     type Kept = Counts;
 
     type Answer = ();
 
     ghost size = { λ next. length next.ahead.now.places.items };
+
+    ghost common = { λ next. common_of_sweep next.sweep.now };
 
     ghost is_run = { IsRunOfNext };
 
@@ -81,15 +85,26 @@ impl<'n> Batch for NextRuns<'n> {
     // a run is longer than all before it: behind that other choices come next
     ghost answers = { λ next counts answer. HasCountedLonger next counts };
 
-    fn test(&self, alloc: Global, place: u32) -> Result<Test<Pct, ScriptBody<'n>>, NoMemory> {
+    fn script(&self) -> ReadyScript<'_> {
+        self.sweep.script
+    }
+
+    fn limit(&self) -> Limit {
+        self.sweep.limit
+    }
+
+    fn policy(&self, alloc: Global, place: u32, spare: Option<Pct>) -> Result<Pct, NoMemory>
+        requires place { place < length self.now.ahead.now.places.items }
+        ensures stands { IfOk result (λ policy. PointsStand policy []) }
+        ensures plan { IfOk result (λ policy. IsPlanOf (common_of_sweep self.now.sweep.now)
+            (IsRunOfNext self.now place) (points_plan policy)) }
+    {
         let sweep = self.sweep;
         let at = self.ahead.places[place as usize];
         let threads = sweep.script.deal.threads;
         let choice = choice_at(alloc, threads, sweep.steps, sweep.points, at)?;
         let (order, points) = (choice.order.as_slice(), choice.points.as_slice());
-        sweep
-            .script
-            .test_by_points(alloc, &Priorities { order, points }, sweep.limit)
+        pct_by(alloc, &Priorities { order, points }, spare)
     }
 
     fn take(
@@ -97,10 +112,18 @@ impl<'n> Batch for NextRuns<'n> {
         _alloc: Global,
         counts: &mut Counts,
         place: u32,
-        played: &Played,
+        events: &[Event],
+        outcome: &Outcome,
     ) -> Result<Option<()>, NoMemory> {
         let at = self.ahead.places[place as usize];
-        counts.reach = count_run(self.sweep, &mut counts.tally, counts.reach, at, played)?;
+        counts.reach = count_run(
+            self.sweep,
+            &mut counts.tally,
+            counts.reach,
+            at,
+            events,
+            outcome,
+        )?;
         if counts.reach.longest > self.before.longest {
             return Ok(Some(()));
         }

@@ -1,21 +1,23 @@
 //! Runs of a script that is ready: whole ones, and those of a batch.
-ghost use Rattle.std.specs.Prelude.{◌≡◌, ◌-◌, [], ◌∷◌};
+ghost use Rattle.std.specs.Prelude.{◌≡◌, ◌-◌, ◌<◌, [], ◌∷◌, IfOk};
+ghost use Rattle.policy_pick.specs.Kept.{points_plan, PointsStand};
+ghost use Rattle.script_run.specs.Batches.{IsPlanOf};
 ghost use Rattle.script_code.specs.Listing.{listing};
 ghost use Rattle.script_run.specs.Ready.{bodies_of_code};
-ghost use Rattle.script_run.specs.Tests.{IsRunByPoints};
+ghost use Rattle.worker_run.specs.Run.{run};
+ghost use Rattle.worker_run.specs.Played.{IsRun};
 
 use crate::scripts::{ADDERS, FAILED, FIRST_OF_A, code_and_deal};
-use pct_ask::{Limit, Verdict};
+use pct_ask::{Event, Limit, Outcome, Verdict};
 use pct_outside::OpenGate;
 use policy_pick::{DirectedPriorities, Pct, Priorities};
-use script_body::ScriptBody;
-use script_run::{Batch, ReadyScript, run_batch};
+use script_run::{Batch, ReadyScript, pct_by, run_batch};
 use std::alloc::{AllocError as NoMemory, Global};
 use std::process::Abort;
 use std::sync::Wait;
 use std::test::Fail;
 use std::thread::Threads;
-use worker_run::{Played, Serve, Serving, Test};
+use worker_run::{Serve, Serving, verdict_of};
 
 /// The adders, with one change point, a step from the fourth down to the first. Only the first
 /// fails.
@@ -25,10 +27,8 @@ struct Adders<'a> {
     ghost three: { ready.deal.now.threads ≡ 3 },
 }
 
-impl<'a> Batch for Adders<'a> {
+impl Batch for Adders<'_> {
     type Policy = Pct;
-
-    type Body = ScriptBody<'a>;
 
     type Kept = u32;
 
@@ -36,20 +36,44 @@ impl<'a> Batch for Adders<'a> {
 
     ghost size = { λ adders. 4 };
 
-    ghost is_run = { λ adders place. IsRunByPoints adders.ready.deal.now
-        (bodies_of_code (listing adders.ready.code.now)) (0 ∷ 1 ∷ 2 ∷ []) ((4 - place) ∷ []) 100 };
+    ghost common = { λ adders. record {
+      code = listing adders.ready.code.now;
+      deal = adders.ready.deal.now;
+      limit = 100;
+    } };
+
+    ghost is_run = { λ adders place played. IsRun (run adders.ready.deal.now
+        (bodies_of_code (listing adders.ready.code.now)) (0 ∷ 1 ∷ 2 ∷ []) ((4 - place) ∷ []) 100)
+        played.events played.outcome };
 
     ghost stands = { λ adders taken place. taken ≡ place };
 
     ghost answers = { λ adders taken verdict. Unit {0} };
 
-    fn test(&self, alloc: Global, place: u32) -> Result<Test<Pct, ScriptBody<'a>>, NoMemory> {
+    fn script(&self) -> ReadyScript<'_> {
+        self.ready
+    }
+
+    fn limit(&self) -> Limit {
+        Limit::new(100)
+    }
+
+    fn policy(&self, alloc: Global, place: u32, spare: Option<Pct>) -> Result<Pct, NoMemory>
+        requires place { place < 4 }
+        ensures stands { IfOk result (λ policy. PointsStand policy []) }
+        ensures plan { IfOk result (λ policy. IsPlanOf (record {
+          code = listing self.now.ready.code.now;
+          deal = self.now.ready.deal.now;
+          limit = 100;
+        }) (λ played. IsRun (run self.now.ready.deal.now
+            (bodies_of_code (listing self.now.ready.code.now)) (0 ∷ 1 ∷ 2 ∷ [])
+            ((4 - place) ∷ []) 100) played.events played.outcome) (points_plan policy)) }
+    {
         let priorities = Priorities {
             order: &[0, 1, 2],
             points: &[4 - place],
         };
-        self.ready
-            .test_by_points(alloc, &priorities, Limit::new(100))
+        pct_by(alloc, &priorities, spare)
     }
 
     fn take(
@@ -57,10 +81,11 @@ impl<'a> Batch for Adders<'a> {
         _alloc: Global,
         taken: &mut u32,
         place: u32,
-        played: &Played,
+        _events: &[Event],
+        outcome: &Outcome,
     ) -> Result<Option<Verdict>, NoMemory> {
         *taken = place + 1;
-        let verdict = played.verdict();
+        let verdict = verdict_of(outcome);
         Ok(if verdict.is(&Verdict::Passed) {
             None
         } else {

@@ -65,9 +65,11 @@ fn expect_each(rt: &impl Abort, deal: &Deal, store: &mut Store, steps: &[Step])
     }
 }
 
-/// What becomes of asks, one after another, from the beginning on.
+/// What becomes of asks, one after another, from the beginning on, twice.
 fn expect(rt: &impl Abort, alloc: Global, steps: &[Step]) -> Result<(), Fail> {
     let (deal, mut store) = small_store(alloc)?;
+    expect_each(rt, &deal, &mut store, steps);
+    store.restart(&deal);
     expect_each(rt, &deal, &mut store, steps);
     drop(store);
     drop(deal);

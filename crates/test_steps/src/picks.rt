@@ -4,7 +4,9 @@ ghost use Rattle.policy_pick.specs.Choice.{TargetsAreAway, HasAwayTarget};
 
 use crate::samples::ORDERS;
 use crate::slow::{slow_by_list, slow_by_moments, slow_by_points, slow_choice};
-use policy_pick::{Chance, DirectedPolicy, Listed, Moment, Pct, Pick, Policy};
+use policy_pick::{
+    Chance, DirectedPolicy, DirectedPriorities, Listed, Moment, Pct, Pick, Policy, Priorities,
+};
 use rank_now::is_order;
 use std::alloc::Global;
 use std::process::Abort;
@@ -295,11 +297,58 @@ fn moments_by_hand(rt: HostRuntime) -> Result<(), Fail> {
 }
 
 #[test]
-fn policies_of_an_order(rt: HostRuntime) -> Result<(), Fail> {
+fn policies_of_priorities(rt: HostRuntime) -> Result<(), Fail> {
     assert!(rt; is_order(&ORDER));
-    expect_picks(&rt, Pct::of_order(rt.alloc(), &ORDER, &[1])?, &LOST_UPDATE);
-    let second = DirectedPolicy::of_order(rt.alloc(), &ORDER, &SECOND_OF_A)?;
-    expect_picks(&rt, second, &SECOND_STEP);
+    let first = Priorities {
+        order: &ORDER,
+        points: &[1],
+    };
+    let lost = Pct::of_priorities(rt.alloc(), &first)?;
+    expect_picks(&rt, lost, &LOST_UPDATE);
+    let second = DirectedPriorities {
+        order: &ORDER,
+        moments: &SECOND_OF_A,
+    };
+    let lowered = DirectedPolicy::of_priorities(rt.alloc(), &second)?;
+    expect_picks(&rt, lowered, &SECOND_STEP);
+    Ok(())
+}
+
+/// A policy by points that is made in the memory of another goes by its own order and points alone.
+fn expect_points_again(rt: &impl Abort, other: Pct) -> Result<(), Fail> {
+    assert!(rt; is_order(&ORDER));
+    let first = Priorities {
+        order: &ORDER,
+        points: &[1],
+    };
+    expect_picks(rt, other.again(&first)?, &LOST_UPDATE);
+    Ok(())
+}
+
+/// The same by moments.
+fn expect_moments_again(rt: &impl Abort, other: DirectedPolicy) -> Result<(), Fail> {
+    assert!(rt; is_order(&ORDER));
+    let second = DirectedPriorities {
+        order: &ORDER,
+        moments: &SECOND_OF_A,
+    };
+    expect_picks(rt, other.again(&second)?, &SECOND_STEP);
+    Ok(())
+}
+
+/// In the memory of policies of fewer threads and changes, and of policies of more changes that
+/// took a step under another order.
+#[test]
+fn policies_made_again(rt: HostRuntime) -> Result<(), Fail> {
+    expect_points_again(&rt, Pct::new(rt.alloc(), &[0], &[])?)?;
+    let mut large = Pct::new(rt.alloc(), &[2, 0, 1], &[1, 1, 2])?;
+    expect_pick(&rt, &mut large, &[READY; 3], Pick::Thread(2), Some(2), 0);
+    expect_points_again(&rt, large)?;
+    expect_moments_again(&rt, DirectedPolicy::new(rt.alloc(), &[0], &[])?)?;
+    let moments = [FIRST_OF_B, FIRST_OF_A];
+    let mut large = DirectedPolicy::new(rt.alloc(), &[1, 2, 0], &moments)?;
+    expect_pick(&rt, &mut large, &[READY; 3], Pick::Thread(1), Some(1), 0);
+    expect_moments_again(&rt, large)?;
     Ok(())
 }
 

@@ -160,6 +160,28 @@ fn holders(rt: HostRuntime) -> Result<(), Fail> {
     Ok(())
 }
 
+/// Ranks that are made again, of fewer threads and of more, have nobody lowered.
+#[test]
+fn ranks_made_again(rt: HostRuntime) -> Result<(), Fail> {
+    let lowered = kept_ranks(&rt, rt.alloc(), &[2, 0, 1], 2, &[2, 0], &[1, 2])?;
+    let two = [1, 0];
+    assert!(rt; is_order(&two));
+    let fewer = lowered.again(&two, 1)?;
+    assert_eq!(rt; fewer.greatest(), 3);
+    assert_eq!(rt; fewer.holder(3), Some(1));
+    assert_eq!(rt; fewer.holder(2), Some(0));
+    assert_eq!(rt; fewer.holder(1), None);
+    let four = [3, 1, 0, 2];
+    assert!(rt; is_order(&four));
+    let more = fewer.again(&four, 3)?;
+    assert_eq!(rt; more.greatest(), 7);
+    for (place, thread) in four.iter().enumerate() {
+        assert_eq!(rt; more.holder(7 - place as u32), Some(*thread));
+        assert!(rt; place == 3 || more.holder(place as u32 + 1).is_none());
+    }
+    Ok(())
+}
+
 /// A thread outranks another where its value is no less, also where two of them were lowered, the
 /// later one below the earlier or above it.
 #[test]

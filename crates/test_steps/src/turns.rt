@@ -292,6 +292,23 @@ fn expect_order(rt: &impl Abort, alloc: Global, run: &Run<'_>, order: &[u32]) ->
     Ok(())
 }
 
+/// The same in a book of a run before, by another policy.
+fn expect_again(rt: &impl Abort, alloc: Global, run: &Run<'_>, order: &[u32]) -> Result<(), Fail> {
+    let many = run.threads.len();
+    assert!(rt; 1 <= many && many <= 64);
+    assert!(rt; run.points.len() <= 7);
+    let policy = Pct::new(alloc, run.threads, run.points)?;
+    let mut book = book_of(alloc, run.threads, &[], 10_000)?;
+    drive(rt, &mut book, run.rows, order);
+    assert_eq!(rt; book.deal().threads as usize, many);
+    drop(book.restart(policy));
+    assert_eq!(rt; (book.trace().len(), book.outcome()), (0, None));
+    drive(rt, &mut book, run.rows, order);
+    expect_rows(rt, book.trace(), run.rows, run.made);
+    assert_eq!(rt; book.outcome(), Some(Outcome::Verdict(run.outcome)));
+    Ok(())
+}
+
 /// The first thread reads and is lowered, so one of two increments is lost.
 const LOST_UPDATE: [Row; 8] = [
     (0, 4, READ, 0),
@@ -347,8 +364,11 @@ fn lost_update(rt: HostRuntime) -> Result<(), Fail> {
             line: 15,
         },
     };
-    expect_order(&rt, rt.alloc(), &run, &[0, 1, 2])?;
-    expect_order(&rt, rt.alloc(), &run, &[2, 1, 0])
+    for order in [[0, 1, 2], [2, 1, 0]] {
+        expect_order(&rt, rt.alloc(), &run, &order)?;
+        expect_again(&rt, rt.alloc(), &run, &order)?;
+    }
+    Ok(())
 }
 
 /// The run of two threads, in both orders of their posts.
@@ -367,8 +387,11 @@ fn expect_two(
         made,
         outcome,
     };
-    expect_order(rt, alloc, &run, &[0, 1])?;
-    expect_order(rt, alloc, &run, &[1, 0])
+    for order in [[0, 1], [1, 0]] {
+        expect_order(rt, alloc, &run, &order)?;
+        expect_again(rt, alloc, &run, &order)?;
+    }
+    Ok(())
 }
 
 /// A deadlock, a barrier and a read-write lock.

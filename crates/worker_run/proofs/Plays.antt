@@ -29,6 +29,7 @@ use Rattle.worker_run.specs.declared.runner.Runner.{Runner}
 use Rattle.worker_run.specs.Played.{IsPlayed, HasPlayed}
 use Rattle.worker_run.specs.Served.{IsUnposted, IsRunning, runner_at, IsShare, AllOwe, IsOver}
 use Rattle.worker_run.specs.Served.{IsServed, first_runners}
+use Rattle.worker_run.specs.Tests.{IsNew}
 use Rattle.worker_run.proofs.laws.RunsOver.{ended-over, same-trace, later-ends}
 
 -- ---- before the first post
@@ -264,3 +265,44 @@ module _ {B : Type 0} (pending : B → Pending) (bodies : List B) (deal : Deal) 
       → IsPlayed plan deal starts limit events outcome
   here-played starts events outcome is =
       subst (λ (b : BookState). IsPlayed b.plan b.deal starts b.limit events outcome) made_is is
+
+-- ---- by the caller, over a book in which nothing has happened
+module _ {B : Type 0} (pending : B → Pending) (bodies : List B) (made : BookState)
+    (new : IsNew made)
+    (count : length bodies ≡ made.deal.threads) where
+  abbrev caller : View
+  caller = first_view made
+
+  abbrev sees : caller ≡ first_view (new_book made.deal made.limit made.plan)
+  sees = ap (λ (b : BookState). first_view b) new.made
+
+  pub caller-share : (runners : List (Option (Runner B))) → runners ≡ first_runners bodies
+      → IsShare pending (pending_of (map pending bodies)) 0 runners caller
+  caller-share =
+      here-share pending bodies made.deal made.limit made.plan made caller new.made sees count
+
+  pub caller-owes : AllOwe caller
+  caller-owes =
+      first-owe caller
+      (here-unposted pending bodies made.deal made.limit made.plan made caller new.made sees count)
+
+  pub caller-played : (book : BookState) → SameMaking made book
+      → ((t : ℕ) → Serves caller t → IsLawful book)
+      → IsServed (pending_of (map pending bodies)) caller (first_view book)
+      → HasPlayed made (map pending bodies) book
+  caller-played book making lawful served =
+      let all = here-all pending bodies made.deal made.limit made.plan made caller new.made sees
+      count in
+      let some = made.deal.some_thread in
+      let law = lawful 0 (all 0 (omega arith)) in
+      has-played made (map pending bodies) caller (first_view book) making law.obeys
+      (here-unposted pending bodies made.deal made.limit made.plan made caller new.made sees count)
+      all served law.outcome
+
+-- as many bodies as there are new runners
+pub as-many-bodies : {B : Type 0} (bodies others : List B) (runners : List (Option (Runner B)))
+    → runners ≡ first_runners bodies → runners ≡ first_runners others
+    → length bodies ≡ length others
+as-many-bodies {B} bodies others runners are same =
+    let make : B → Option (Runner B) = λ body. Some (record { body = body; answered = 0 }) in
+    omega (arith, length-map bodies make, length-map others make, ap length (sym are ∙ same))

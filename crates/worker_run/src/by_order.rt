@@ -9,7 +9,7 @@ ghost use Rattle.policy_pick.specs.Plan.{ByPoints, ByEvents};
 ghost use Rattle.worker_run.specs.Run.{run, directed_run};
 ghost use Rattle.worker_run.specs.Played.{IsPlayed};
 
-use crate::played::Played;
+use crate::played::{Played, verdict_of};
 use crate::run::run_threads;
 use pct_ask::{Body, Deal, EventList, Limit, Outcome, Verdict};
 use pct_outside::Gate;
@@ -32,21 +32,10 @@ impl Played {
         ensures events { result.events ≡ self.events }
         ensures verdict { self.outcome ≡ Outcome.Verdict result.verdict }
     {
-        let Played { events, outcome } = self;
-        match outcome {
-            Outcome::Verdict(verdict) => WholeRun { events, verdict },
-            Outcome::Departed { .. } => unreachable!(),
-        }
-    }
-
-    /// The verdict of a run that one ended.
-    pub fn verdict(&self) -> Verdict
-        requires { (verdict : Verdict) × (self.now.outcome ≡ Outcome.Verdict verdict) }
-        ensures { self.now.outcome ≡ Outcome.Verdict result }
-    {
-        match self.outcome {
-            Outcome::Verdict(verdict) => verdict,
-            Outcome::Departed { .. } => unreachable!(),
+        let verdict = verdict_of(&self.outcome);
+        WholeRun {
+            events: self.events,
+            verdict,
         }
     }
 }
@@ -86,7 +75,7 @@ pub fn run_by_points<R: Threads + Wait + Sync, B: Body, G: Gate>(
         IsPlayed (ByPoints priorities.now.order.now priorities.now.points.now) deal
         (map B.pending bodies.items) limit whole.events (Outcome.Verdict whole.verdict)) }
 {
-    let policy = Pct::of_order(alloc, priorities.order, priorities.points)?;
+    let policy = Pct::of_priorities(alloc, priorities)?;
     let played = run_threads(rt, alloc, deal, policy, limit.steps(), bodies, gate)?;
     Ok(played.into_whole())
 }
@@ -113,7 +102,7 @@ pub fn run_by_moments<R: Threads + Wait + Sync, B: Body, G: Gate>(
         IsPlayed (ByEvents priorities.now.order.now priorities.now.moments.now) deal
         (map B.pending bodies.items) limit whole.events (Outcome.Verdict whole.verdict)) }
 {
-    let policy = DirectedPolicy::of_order(alloc, priorities.order, priorities.moments)?;
+    let policy = DirectedPolicy::of_priorities(alloc, priorities)?;
     let played = run_threads(rt, alloc, deal, policy, limit.steps(), bodies, gate)?;
     Ok(played.into_whole())
 }

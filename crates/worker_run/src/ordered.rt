@@ -2,13 +2,13 @@
 ghost use Rattle.std.specs.Prelude.{◌≡◌, length, map, IfOk};
 ghost use Rattle.pct_ask.specs.Objects.{sizes_of_deal};
 ghost use Rattle.pct_ask.specs.Bodies.{AreInRange};
-ghost use Rattle.policy_pick.specs.Plan.{ByPoints, ByEvents};
-ghost use Rattle.policy_pick.specs.Kept.{points_plan, PointsStand, events_plan, EventsStand};
+ghost use Rattle.policy_pick.specs.Plan.{ByPoints};
+ghost use Rattle.policy_pick.specs.Kept.{points_plan, PointsStand};
 ghost use Rattle.worker_run.specs.Tests.{IsTest};
 
 use crate::batch::Test;
 use pct_ask::{Body, Deal, Limit};
-use policy_pick::{DirectedPolicy, DirectedPriorities, Pct, Priorities};
+use policy_pick::{Pct, Priorities};
 use std::alloc::{AllocError as NoMemory, Global};
 
 impl<B: Body> Test<Pct, B> {
@@ -30,37 +30,7 @@ impl<B: Body> Test<Pct, B> {
         ensures limit { IfOk result (λ test. test.limit ≡ limit) }
         ensures bodies { IfOk result (λ test. test.bodies ≡ bodies) }
     {
-        let policy = Pct::of_order(alloc, priorities.order, priorities.points)?;
-        Ok(Test {
-            deal,
-            policy,
-            limit,
-            bodies,
-        })
-    }
-}
-
-impl<B: Body> Test<DirectedPolicy, B> {
-    /// A test that is run under an order of its threads and moments.
-    pub fn by_moments(
-        alloc: Global,
-        deal: Deal,
-        priorities: &DirectedPriorities<'_>,
-        limit: Limit,
-        bodies: Vec<B>,
-    ) -> Result<Test<DirectedPolicy, B>, NoMemory>
-        requires whole { length priorities.now.order.now ≡ deal.threads }
-        requires bodies { length bodies.items ≡ deal.threads }
-        requires in_range { AreInRange (sizes_of_deal deal) (map B.pending bodies.items) }
-        ensures asked { IfOk result (λ test. IsTest B.pending events_plan EventsStand test) }
-        ensures plan { IfOk result (λ test.
-            events_plan test.policy
-            ≡ ByEvents priorities.now.order.now priorities.now.moments.now) }
-        ensures deal { IfOk result (λ test. test.deal ≡ deal) }
-        ensures limit { IfOk result (λ test. test.limit ≡ limit) }
-        ensures bodies { IfOk result (λ test. test.bodies ≡ bodies) }
-    {
-        let policy = DirectedPolicy::of_order(alloc, priorities.order, priorities.moments)?;
+        let policy = Pct::of_priorities(alloc, priorities)?;
         Ok(Test {
             deal,
             policy,

@@ -1,6 +1,8 @@
 ghost use Rattle.std.specs.Prelude.{◌≡◌, ◌≤◌, length};
+ghost use Rattle.pct_ask.specs.declared.verdict.Outcome.{Outcome};
+ghost use Rattle.pct_ask.specs.declared.verdict.Verdict.{Verdict};
 
-use pct_ask::{EventList, Limit, Outcome};
+use pct_ask::{Event, EventList, Limit, Outcome, Verdict};
 
 /// A run: its steps, and what became of it.
 #[derive(Debug, Drop)]
@@ -10,10 +12,21 @@ pub struct Played {
 }
 
 /// How many steps a run of at most `limit` steps has.
-pub fn step_count(events: &EventList, limit: Limit) -> u32
+pub fn step_count(events: &[Event], limit: Limit) -> u32
     requires within { length events.now ≤ limit }
     ensures { result ≡ length events.now }
 {
     let _most = limit.steps(); // of so many steps the number fits
     events.len() as u32
+}
+
+/// The verdict that ended a run, as one ends each run by an order.
+pub fn verdict_of(outcome: &Outcome) -> Verdict
+    requires { (verdict : Verdict) × (outcome.now ≡ Outcome.Verdict verdict) }
+    ensures { outcome.now ≡ Outcome.Verdict result }
+{
+    match *outcome {
+        Outcome::Verdict(verdict) => verdict,
+        Outcome::Departed { .. } => unreachable!(),
+    }
 }

@@ -12,7 +12,7 @@ ghost use Rattle.worker_run.specs.Run.{run, directed_run};
 ghost use Rattle.worker_run.specs.Played.{IsPlayed, IsRun, HasPlayed};
 ghost use Rattle.pct_ask.specs.declared.limits.TheConstants.{MAX_STEPS};
 
-use crate::alone::serve_alone;
+use crate::by_caller::serve_by_caller;
 use crate::lent::{run_on, runners_of};
 use crate::played::Played;
 use pct_ask::{Body, Deal, EventList, Limit, Sequence};
@@ -142,7 +142,7 @@ pub fn run_here_in<R: Wait, P: Policy, B: Body, G: Gate>(
 {
     let mut runners = runners_of(alloc, bodies)?;
     let mut book = book_of(alloc, deal, policy, limit, trace)?; // served with no lock
-    serve_alone(rt, &mut book, runners.as_mut_slice(), gate);
+    serve_by_caller(rt, &mut book, runners.as_mut_slice(), gate);
     Ok(played_of(book))
 }
 

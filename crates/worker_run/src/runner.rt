@@ -31,6 +31,7 @@ pub struct Runner<B: Body> {
 }
 
 impl<B: Body> Runner<B> {
+    /// A runner of a body that has had no answer.
     pub fn new(body: B) -> Runner<B>
         ensures { result ≡ record { body = body; answered = 0 } }
     {
@@ -38,7 +39,7 @@ impl<B: Body> Runner<B> {
     }
 
     /// The body is told the answer to what it asked.
-    pub fn hear(&mut self, value: i64)
+    pub(crate) fn hear(&mut self, value: i64)
         requires asks { IsSome (B.pending self.old.body []).ask }
         requires few { self.old.answered + 1 < 2 ^ 64 }
         ensures body { (answers : List ℤ)
@@ -51,7 +52,7 @@ impl<B: Body> Runner<B> {
 
     /// The thread passes the gate and posts, and goes on so for as long as it is its turn. It is
     /// true where the run is over.
-    pub fn speak<R: Wait, P: Policy, G: Gate>(
+    pub(crate) fn speak<R: Wait, P: Policy, G: Gate>(
         &mut self,
         rt: &R,
         lock: &TurnLock<P>,

@@ -59,10 +59,10 @@ impl Serving {
     }
 
     /// Takes the trace of a run that was read, for further runs.
-    pub fn take_back(&mut self, played: Played) -> Result<(), NoMemory>
+    pub fn take_back(&mut self, trace: EventList) -> Result<(), NoMemory>
         ensures { self.new.by ≡ self.old.by }
     {
-        self.traces.push(played.events)?;
+        self.traces.push(trace)?;
         Ok(())
     }
 
@@ -71,7 +71,7 @@ impl Serving {
         ensures { self.new.by ≡ self.old.by }
     {
         for played in runs {
-            self.take_back(played)?;
+            self.take_back(played.events)?;
         }
         Ok(())
     }

@@ -26,7 +26,8 @@ returns-then-is-clause-leaves g c =
       length-remove c.args.priorities.now.moments.now c.loop-place.place c.loop-place-test.true,
       c.args.priorities.now.few_moments,
     )) c.loop-place-test.true
-    (c.is.ensures.0 c.if-is.true) c.step_count-steps.ensures
+    (c.is.ensures.0 c.if-is.true)
+    (c.step_count-steps.ensures ∙ ap length c.as_slice-then-is.ensures)
 
 pub loop-place-preserved : goal.loop-place-preserved
 loop-place-preserved g c =

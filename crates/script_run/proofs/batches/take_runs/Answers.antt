@@ -1,5 +1,6 @@
 -- The runs come one after another.
-use Rattle.std.proofs.Common.{◌≡◌, ◌+◌, ◌-◌, ◌<◌, length, arith}
+use Rattle.std.proofs.Common.{◌≡◌, ◌+◌, ◌-◌, ◌<◌, List, length, sym, subst, arith}
+use Rattle.pct_ask.specs.declared.event.Event.{Event}
 use Rattle.script_run.proofs.Places.{item-at}
 use Rattle.script_run.proofs.batches.take_runs.Goals as goal
 
@@ -10,5 +11,11 @@ take-requires-clause-run g c =
     let here : place ≡ start + (place - start) = omega arith in
     let within : place - start < length c.args.runs.now =
     omega (arith, c.requires.long, c.loop-place-test.true) in
-    item-at (g.T.Batch.is_run c.args.batch.now) start (place - start) place c.args.runs.now _ here
-    within c.index-runs-place.is c.requires.runs
+    let is_run = g.T.Batch.is_run c.args.batch.now in
+    let played = c.index-runs-place.result in
+    let run : is_run place played =
+    item-at is_run start (place - start) place c.args.runs.now played here within
+    c.index-runs-place.is c.requires.runs in
+    let E : List Event → Type 0 =
+    λ es. is_run place (record { events = es; outcome = played.outcome }) in
+    subst E (sym c.as_slice-events.ensures) run

@@ -9,8 +9,8 @@ use Rattle.sweep.specs.Batches.{setup_of_sweep}
 use Rattle.sweep.proofs.Steps.{pass-by, run-counted, run-fits}
 use Rattle.sweep.proofs.batches.count_run.Goals as goal
 
-pub verdict-requires : goal.verdict-requires
-verdict-requires c =
+pub verdict_of-requires : goal.verdict_of-requires
+verdict_of-requires c =
     let run = (c.requires.run).run in
     (run.verdict, run.ends)
 
@@ -28,9 +28,9 @@ add_copies-requires c =
         arith,
         run-fits setup c.args.place is.choice c.stands_for.result is.at
             (λ ran made.
-            let both : ◌≡◌ {A = Option Run} (Some (c.args.played.now.events, is.run.verdict))
+            let both : ◌≡◌ {A = Option Run} (Some (c.args.events.now, is.run.verdict))
             (Some ran) = sym is.run.steps ∙ made in
-            let same : ◌≡◌ {A = Run} (c.args.played.now.events, is.run.verdict) ran = cc in
+            let same : ◌≡◌ {A = Run} (c.args.events.now, is.run.verdict) ran = cc in
             c.stands_for.ensures is.choice is.at
             ∙ ap (λ n. weight sweep.steps n is.choice.points)
             (c.max.ensures ∙ ap (λ n. max n 1)
@@ -49,8 +49,9 @@ returns-clause-counted c =
     c.requires.ahead (omega (arith, c.requires.place, sweep.whole))
     c.requires.above c.requires.before in
     let rows = spread (often_in setup) setup 0 (take c.args.place (choices_of setup)) in
-    run-counted setup here _ c.args.tally.now c.add_copies.new.tally c.args.played.now _
-    c.stands_for.result is before c.from.ensures c.step_count-steps.ensures c.verdict.ensures
+    run-counted setup here _ c.args.tally.now c.add_copies.new.tally
+    (record { events = c.args.events.now; outcome = c.args.outcome.now }) _
+    c.stands_for.result is before c.from.ensures c.step_count-steps.ensures c.verdict_of.ensures
     (c.stands_for.ensures is.choice is.at
     ∙ ap (λ n. weight sweep.steps n is.choice.points)
     (c.max.ensures ∙ ap (λ n. max n 1) c.step_count-steps.ensures))

@@ -1,15 +1,10 @@
 use Rattle.std.proofs.Common.{◌≡◌, ℕ, Some, map, subst}
-use Rattle.rank_now.proofs.laws.KnownOrders.{known_order}
 use Rattle.policy_pick.specs.Plan.{ByEvents}
 use Rattle.policy_pick.specs.Kept.{events_plan}
 use Rattle.worker_run.specs.Run.{directed_run}
 use Rattle.worker_run.specs.Played.{IsPlayed}
 use Rattle.worker_run.proofs.Wholes.{told-run, told-played}
 use Rattle.worker_run.proofs.by_order.run_by_moments.Goals as goal
-
-pub of_order-requires-clause-order : goal.of_order-requires-clause-order
-of_order-requires-clause-order g c =
-    known_order c.args.priorities.now.order.now c.args.priorities.now.is_order
 
 pub into_whole-requires : goal.into_whole-requires
 into_whole-requires g c =

@@ -10,7 +10,9 @@ use Rattle.script_run.proofs.ready.ReadyScript.run_by_moments.Goals as goal
 pub into_whole-requires : goal.into_whole-requires
 into_whole-requires g c =
     let is = c.in_ok-test.ensures.run c.in_ok-played.played c.in_ok-played.ensures in
-    (is.directed.verdict, is.directed.ends)
+    let run = is.by_moments c.args.priorities.now.order.now c.args.priorities.now.moments.now
+    c.in_ok-policy.ensures.plan in
+    (run.verdict, run.ends)
 
 pub returns-clause-code : goal.returns-clause-code
 returns-clause-code g c =
@@ -21,7 +23,9 @@ returns-clause-code g c =
     told-run (directed_run ready.deal.now (bodies_of_code (listing ready.code.now))
     c.args.priorities.now.order.now c.args.priorities.now.moments.now c.args.limit) played.events
     whole.events played.outcome
-    whole.verdict is.directed c.into_whole.ensures.events c.into_whole.ensures.verdict
+    whole.verdict
+    (is.by_moments c.args.priorities.now.order.now c.args.priorities.now.moments.now
+    c.in_ok-policy.ensures.plan) c.into_whole.ensures.events c.into_whole.ensures.verdict
 
 pub returns-clause-directed : goal.returns-clause-directed
 returns-clause-directed g c = λ script of.
