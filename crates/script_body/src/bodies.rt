@@ -28,9 +28,9 @@ pub fn bodies_of<'c>(alloc: Global, code: &'c Code) -> Result<Vec<ScriptBody<'c>
         → IfOk result
         (λ bodies. AreInRange (sizes_of_deal deal) (map pending_of_body bodies.items)) }
 {
-    let mut bodies = Vec::new(alloc);
+    let mut bodies = Vec::with_capacity(alloc, code.threads() as usize)?;
     for thread in 0..code.threads() {
-        bodies.push(ScriptBody::new(code, thread))?;
+        bodies.push_reserved(ScriptBody::new(code, thread));
     }
     Ok(bodies)
 }

@@ -34,62 +34,46 @@ pub(crate) fn turn_at(code: &Code, thread: u32, state: &State, post: &mut Post) 
     match code.flat(thread, state.place) {
         Flat::Do { stmt, .. } => lone_turn(stmt, &state.registers, state.halfway, post),
         Flat::Test { line, .. } => Next::Move { line: *line },
-        Flat::End { line } => ends(*line, post),
-        Flat::Begin { line, .. } => asks(*line, Ask::Begin, post),
+        Flat::End { line } => put(*line, None, post),
+        Flat::Begin { line, .. } => put(*line, Some(Ask::Begin), post),
     }
 }
 
-fn ends(line: u32, post: &mut Post) -> Next
-    ensures { told_turn result post.new ≡ Posts (record { ask = None; line = line }) }
+// The post of this line: an ask, or none at a thread's end.
+fn put(line: u32, ask: Option<Ask>, post: &mut Post) -> Next
+    ensures { told_turn result post.new ≡ Posts (record { ask = ask; line = line }) }
 {
-    *post = Post { ask: None, line };
+    *post = Post { ask, line };
     Next::Post
 }
 
-fn asks(line: u32, ask: Ask, post: &mut Post) -> Next
-    ensures { told_turn result post.new ≡ Posts (record { ask = Some ask; line = line }) }
-{
-    *post = Post {
-        ask: Some(ask),
-        line,
-    };
-    Next::Post
-}
-
-// What a statement without blocks and expressions does first, whatever the registers hold.
-fn plain_turn(stmt: &Stmt, halfway: bool, post: &mut Post) -> Next
+// The line and the ask of a statement without blocks and expressions, whatever the registers hold.
+fn plain_ask(stmt: &Stmt, halfway: bool) -> (u32, Ask)
     requires { has_no_expression (statement stmt.now) ≡ true }
-    ensures { (registers : List ℤ) → told_turn result post.new
-        ≡ turn_of (line_of (statement stmt.now)) (act [] registers halfway (statement stmt.now)) }
+    ensures { (registers : List ℤ)
+        → turn_of (line_of (statement stmt.now)) (act [] registers halfway (statement stmt.now))
+        ≡ Posts (record { ask = Some result.1; line = result.0 }) }
 {
     match stmt {
-        Stmt::Read { line, var, .. } => asks(*line, Ask::Read { var: *var }, post),
-        Stmt::Lock { line, mutex } => asks(*line, Ask::Lock { mutex: *mutex }, post),
-        Stmt::TryLock { line, mutex, .. } => asks(*line, Ask::TryLock { mutex: *mutex }, post),
-        Stmt::Unlock { line, mutex } => asks(*line, Ask::Unlock { mutex: *mutex }, post),
-        Stmt::Wait { line, cond, mutex } => asks(*line, wait_ask(*cond, *mutex, halfway), post),
-        Stmt::Signal { line, cond } => asks(*line, Ask::Signal { cond: *cond }, post),
-        Stmt::Broadcast { line, cond } => asks(*line, Ask::Broadcast { cond: *cond }, post),
-        Stmt::Down { line, sem } => asks(*line, Ask::Down { sem: *sem }, post),
-        Stmt::TryDown { line, sem, .. } => asks(*line, Ask::TryDown { sem: *sem }, post),
-        Stmt::Up { line, sem } => asks(*line, Ask::Up { sem: *sem }, post),
-        Stmt::Arrive { line, barrier, .. } => asks(*line, arrive_ask(*barrier, halfway), post),
-        Stmt::Join { line, thread } => asks(*line, Ask::Join { thread: *thread }, post),
-        Stmt::Yield { line } => asks(*line, Ask::Yield, post),
-        Stmt::Start { line, thread } => asks(*line, Ask::Start { thread: *thread }, post),
-        Stmt::RdLock { line, rwlock } => asks(*line, Ask::RdLock { rwlock: *rwlock }, post),
-        Stmt::WrLock { line, rwlock } => asks(*line, Ask::WrLock { rwlock: *rwlock }, post),
-        Stmt::TryRdLock { line, rwlock, .. } => asks(
-            *line,
-            Ask::TryRdLock { rwlock: *rwlock },
-            post,
-        ),
-        Stmt::TryWrLock { line, rwlock, .. } => asks(
-            *line,
-            Ask::TryWrLock { rwlock: *rwlock },
-            post,
-        ),
-        Stmt::RwUnlock { line, rwlock } => asks(*line, Ask::RwUnlock { rwlock: *rwlock }, post),
+        Stmt::Read { line, var, .. } => (*line, Ask::Read { var: *var }),
+        Stmt::Lock { line, mutex } => (*line, Ask::Lock { mutex: *mutex }),
+        Stmt::TryLock { line, mutex, .. } => (*line, Ask::TryLock { mutex: *mutex }),
+        Stmt::Unlock { line, mutex } => (*line, Ask::Unlock { mutex: *mutex }),
+        Stmt::Wait { line, cond, mutex } => (*line, wait_ask(*cond, *mutex, halfway)),
+        Stmt::Signal { line, cond } => (*line, Ask::Signal { cond: *cond }),
+        Stmt::Broadcast { line, cond } => (*line, Ask::Broadcast { cond: *cond }),
+        Stmt::Down { line, sem } => (*line, Ask::Down { sem: *sem }),
+        Stmt::TryDown { line, sem, .. } => (*line, Ask::TryDown { sem: *sem }),
+        Stmt::Up { line, sem } => (*line, Ask::Up { sem: *sem }),
+        Stmt::Arrive { line, barrier, .. } => (*line, arrive_ask(*barrier, halfway)),
+        Stmt::Join { line, thread } => (*line, Ask::Join { thread: *thread }),
+        Stmt::Yield { line } => (*line, Ask::Yield),
+        Stmt::Start { line, thread } => (*line, Ask::Start { thread: *thread }),
+        Stmt::RdLock { line, rwlock } => (*line, Ask::RdLock { rwlock: *rwlock }),
+        Stmt::WrLock { line, rwlock } => (*line, Ask::WrLock { rwlock: *rwlock }),
+        Stmt::TryRdLock { line, rwlock, .. } => (*line, Ask::TryRdLock { rwlock: *rwlock }),
+        Stmt::TryWrLock { line, rwlock, .. } => (*line, Ask::TryWrLock { rwlock: *rwlock }),
+        Stmt::RwUnlock { line, rwlock } => (*line, Ask::RwUnlock { rwlock: *rwlock }),
         Stmt::Write { .. } | Stmt::Add { .. } | Stmt::Cas { .. } => unreachable!(),
         Stmt::Assert { .. } | Stmt::Set { .. } => unreachable!(),
         Stmt::If { .. } | Stmt::While { .. } => unreachable!(),
@@ -104,9 +88,9 @@ fn lone_turn(stmt: &Stmt, registers: &Registers, halfway: bool, post: &mut Post)
         (act [] registers.now halfway (statement stmt.now)) }
 {
     match stmt {
-        Stmt::Write { line, var, value } => asks(
+        Stmt::Write { line, var, value } => put(
             *line,
-            write_ask(*var, value_of(value, registers)),
+            Some(write_ask(*var, value_of(value, registers))),
             post,
         ),
         Stmt::Add {
@@ -114,20 +98,23 @@ fn lone_turn(stmt: &Stmt, registers: &Registers, halfway: bool, post: &mut Post)
             var,
             value,
             ..
-        } => asks(*line, add_ask(*var, value_of(value, registers)), post),
+        } => put(*line, Some(add_ask(*var, value_of(value, registers))), post),
         Stmt::Cas {
             line,
             var,
             old,
             new,
             ..
-        } => asks(
+        } => put(
             *line,
-            cas_ask(*var, value_of(old, registers), value_of(new, registers)),
+            Some(cas_ask(*var, value_of(old, registers), value_of(new, registers))),
             post,
         ),
-        Stmt::Assert { line, test } => asks(*line, check_ask(value_of(test, registers)), post),
+        Stmt::Assert { line, test } => put(*line, Some(check_ask(value_of(test, registers))), post),
         Stmt::Set { line, .. } => Next::Move { line: *line },
-        _ => plain_turn(stmt, halfway, post),
+        _ => {
+            let (line, ask) = plain_ask(stmt, halfway);
+            put(line, Some(ask), post)
+        }
     }
 }

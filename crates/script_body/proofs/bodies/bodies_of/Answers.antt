@@ -11,16 +11,22 @@ loop-thread-preserved c =
     let code = listing c.args.code.now in
     let within : c.loop-thread.thread < length code =
     omega (arith, c.loop-thread-test.true, c.threads-thread-end.ensures) in
-    one_more pending_of_body code c.loop-thread.bodies.items c.push.new.self.items c.new.result
-    c.loop-thread.thread within c.loop-thread.invariant c.in_ok-push.ensures.items
-    c.new.ensures.code
+    let pushed = c.push_reserved.ensures in
+    record {
+      long = omega (arith, pushed.len, c.loop-thread.invariant.long);
+      room = pushed.capacity ∙ c.loop-thread.invariant.room;
+      posts =
+          one_more pending_of_body code c.loop-thread.bodies.items c.push_reserved.new.self.items
+          c.new.result c.loop-thread.thread within c.loop-thread.invariant.posts pushed.items
+          c.new.ensures.code;
+    }
 
 pub returns-clause-code : goal.returns-clause-code
 returns-clause-code c =
     let code = listing c.args.code.now in
     let past : length code ≤ c.loop-thread.thread =
     omega (arith, c.loop-thread-test.false, c.threads-thread-end.ensures) in
-    c.loop-thread.invariant ∙ ap (map flat_pending) (take_all c.loop-thread.thread code past)
+    c.loop-thread.invariant.posts ∙ ap (map flat_pending) (take_all c.loop-thread.thread code past)
 
 pub returns-clause-script : goal.returns-clause-script
 returns-clause-script c =
