@@ -3,8 +3,8 @@ use Rattle.std.specs.Prelude.{◌≡◌, ◌≢◌, ◌+◌, ◌⊎◌, ◌≤�
 use Rattle.pct_ask.specs.declared.deal.Deal.{Deal}
 use Rattle.pct_ask.specs.declared.event.Event.{Event}
 use Rattle.trace_text.specs.declared.file.TraceFile.{TraceFile}
-use Rattle.kit_runs.specs.declared.replaying.Replayed.{Replayed}
-use Rattle.kit_runs.specs.declared.replaying.Replayed.TheVariants.{Confirmed, Departs}
+use Rattle.kit_runs.specs.declared.replaying.Confirmation.{Confirmation}
+use Rattle.kit_runs.specs.declared.replaying.Confirmation.TheVariants.{Confirmed, Departs}
 use Rattle.kit_runs.specs.Runs.{IsFileOf}
 
 -- the first steps of both are the same, and the next ones, where both have one, are not
@@ -16,7 +16,7 @@ pub record IsAgreed (made told : List Event) (many : ℕ) : Type 0 where
 
 -- what is told of a run and a trace: they are the same, or they have the same steps up to this one,
 -- from 1, at which they differ
-abbrev pub Tells : TraceFile → TraceFile → Replayed → Type 0
+abbrev pub Tells : TraceFile → TraceFile → Confirmation → Type 0
 Tells made file (Confirmed verdict) =
     (made.events ≡ file.events) × (made.verdict ≡ file.verdict) × (verdict ≡ file.verdict)
 Tells made file (Departs step) =
@@ -26,7 +26,7 @@ Tells made file (Departs step) =
     × (made.verdict ≢ file.verdict)))
 
 -- the run by the trace's order, points and limit was made, and compared with it
-pub record IsReplay (deal : Deal) (file : TraceFile) (replayed : Replayed) : Type 0 where
+pub record IsReplay (deal : Deal) (file : TraceFile) (confirmation : Confirmation) : Type 0 where
   pub made : TraceFile
   pub run : IsFileOf deal file.header.order file.header.points file.header.limit made
-  pub tells : Tells made file replayed
+  pub tells : Tells made file confirmation

@@ -35,6 +35,6 @@ pub use drawing::run_seed;
 pub use error::RunError;
 pub use law::run_of_bodies;
 pub use program::Program;
-pub use replaying::{Replayed, replay};
+pub use replaying::{Confirmation, replay};
 pub use running::run_program;
 pub use seeds::Seeds;

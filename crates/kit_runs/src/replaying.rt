@@ -15,7 +15,7 @@ use trace_text::TraceFile;
 
 /// What a replay tells of a trace.
 #[derive(Clone, Copy, Debug, PartialEq, Eq)]
-pub enum Replayed {
+pub enum Confirmation {
     /// The run of the trace's order, points and limit has its steps and its verdict.
     Confirmed(Verdict),
     /// The first step, from 1, at which the two differ, or one more than both have where their
@@ -35,16 +35,16 @@ fn agreed(made: &[Event], told: &[Event]) -> usize
 }
 
 /// Compares a run with a trace.
-fn compare(run: &TraceFile, file: &TraceFile) -> Replayed
+fn compare(run: &TraceFile, file: &TraceFile) -> Confirmation
     requires few { length run.now.events ≤ MAX_STEPS }
     ensures { Tells run.now file.now result }
 {
     let many = agreed(run.events.as_slice(), file.events.as_slice());
     let is_whole = many == run.events.len() && many == file.events.len();
     if is_whole && run.verdict.is(&file.verdict) {
-        return Replayed::Confirmed(file.verdict);
+        return Confirmation::Confirmed(file.verdict);
     }
-    Replayed::Departs {
+    Confirmation::Departs {
         step: many as u32 + 1,
     }
 }
@@ -56,7 +56,7 @@ pub fn replay<R: Threads + Wait + Sync, T: Program + Sync>(
     deal: &Deal,
     file: &TraceFile,
     program: &T,
-) -> Result<Replayed, RunError>
+) -> Result<Confirmation, RunError>
     requires some_steps { 1 ≤ file.now.header.limit }
     requires few_steps { file.now.header.limit ≤ MAX_STEPS }
     requires few_points { length file.now.header.points ≤ MAX_POINTS }

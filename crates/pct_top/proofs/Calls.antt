@@ -6,7 +6,7 @@ use Rattle.pct_outside.proofs.laws.Pieces.{IsAppended-nil, IsPartAppended-nil}
 use Rattle.pct_top.specs.declared.refusal.Refusal.{Refusal}
 use Rattle.pct_top.specs.declared.refusal.Refusal.TheVariants.{Usage, Script, Trace, Directive}
 use Rattle.pct_top.specs.declared.refusal.Refusal.TheVariants.{Read, Write, Memory}
-use Rattle.pct_top.specs.declared.outcome.Outcome.{Outcome}
+use Rattle.pct_top.specs.declared.command_output.CommandOutput.{CommandOutput}
 use Rattle.pct_top.specs.declared.status.Status.{Status}
 use Rattle.pct_top.specs.declared.status.Status.TheVariants as statuses
 use Rattle.pct_top.specs.Settings.{SettingsOrWord, settings}
@@ -14,10 +14,10 @@ use Rattle.pct_top.specs.Refusing.{status_of_refusal, refusal_line}
 use Rattle.pct_top.specs.Saying.{SaysLine}
 use Rattle.pct_top.specs.Printed.{Files, Printed, printed_refusal}
 use Rattle.pct_top.specs.Output.{OfTaken, Output}
-use Rattle.pct_top.specs.Outcome.{printed_of, ShowsFiles, Comes}
+use Rattle.pct_top.specs.CommandOutput.{printed_of, ShowsFiles, Comes}
 use Rattle.pct_outside.specs.Told.{ShelfTold, StreamTold}
 use Rattle.pct_top.specs.Outside.{Outside}
-use Rattle.pct_top.specs.Call.{IsCarriedOut, PrintsOne, PutsAll, PutsOutcome, RefusedFirst}
+use Rattle.pct_top.specs.Call.{IsCarriedOut, PrintsOne, PutsAll, PutsOutput, RefusedFirst}
 use Rattle.pct_top.specs.Call.{ReadFailed}
 use Rattle.pct_top.specs.Call.{Answers, RefusedWords, CanRun, Completes, PrintsAll, IsExact}
 use Rattle.pct_top.specs.Call.{PrintsWhole, Refuses, Ends, LeavesShelf, ReadsNone, is_read_fault}
@@ -41,22 +41,22 @@ module _ (taken : SettingsOrWord) (shelf shelf' : ShelfTold) where
   answers_refused stream Write h = absurd h
   answers_refused stream Memory h = inl refl
 
-  pub answers_put : (before after : StreamTold) (outcome : Outcome) (r : Result Status Refusal)
-      → ShowsFiles (OfTaken taken) shelf.files (printed_of outcome)
-      → PutsOutcome (printed_of outcome) before after r → Answers taken shelf shelf' before after r
-  answers_put before after outcome (Ok status) h p = (
-    subst IsCarriedOut (sym p.1) (told_answers outcome.text.items outcome.done),
-    λ files e. (printed_of outcome, h files e, p),
+  pub answers_put : (before after : StreamTold) (output : CommandOutput) (r : Result Status Refusal)
+      → ShowsFiles (OfTaken taken) shelf.files (printed_of output)
+      → PutsOutput (printed_of output) before after r → Answers taken shelf shelf' before after r
+  answers_put before after output (Ok status) h p = (
+    subst IsCarriedOut (sym p.1) (told_answers output.text.items output.done),
+    λ files e. (printed_of output, h files e, p),
   )
-  answers_put before after outcome (Err (Usage word)) h p = absurd p
-  answers_put before after outcome (Err (Script line kind)) h p = absurd p
-  answers_put before after outcome (Err (Trace line kind)) h p = absurd p
-  answers_put before after outcome (Err (Directive line kind)) h p = absurd p
-  answers_put before after outcome (Err Read) h p = absurd p
-  answers_put before after outcome (Err Write) h p =
-      (p.0, λ files e. (printed_of outcome, h files e, (refl, p.1)))
-  answers_put before after outcome (Err Memory) h p =
-      inr (λ files e. (printed_of outcome, h files e, (refl, p)))
+  answers_put before after output (Err (Usage word)) h p = absurd p
+  answers_put before after output (Err (Script line kind)) h p = absurd p
+  answers_put before after output (Err (Trace line kind)) h p = absurd p
+  answers_put before after output (Err (Directive line kind)) h p = absurd p
+  answers_put before after output (Err Read) h p = absurd p
+  answers_put before after output (Err Write) h p =
+      (p.0, λ files e. (printed_of output, h files e, (refl, p.1)))
+  answers_put before after output (Err Memory) h p =
+      inr (λ files e. (printed_of output, h files e, (refl, p)))
 
 -- ---- words that aren't taken
 

@@ -15,7 +15,7 @@ use Rattle.pct_top.specs.declared.refusal.Refusal.{Refusal}
 use Rattle.pct_top.specs.declared.refusal.Refusal.TheVariants.{Usage, Script, Trace}
 use Rattle.pct_top.specs.declared.refusal.Refusal.TheVariants.{Directive as BadDirective, Read}
 use Rattle.pct_top.specs.declared.refusal.Refusal.TheVariants.{Write, Memory}
-use Rattle.pct_top.specs.declared.outcome.Outcome.{Outcome}
+use Rattle.pct_top.specs.declared.command_output.CommandOutput.{CommandOutput}
 use Rattle.pct_top.specs.declared.settings.Settings.{Settings}
 use Rattle.pct_top.specs.declared.test.ReadyTest.{ReadyTest}
 use Rattle.pct_top.specs.Ready.{IsReadyTest}
@@ -24,7 +24,7 @@ use Rattle.pct_top.specs.Printed.{Files, Printed, printed_refusal, trace_bytes, 
 use Rattle.pct_top.specs.Printed.{OfScript, script_bytes}
 use Rattle.pct_top.specs.Printed.{OfOrder, OfTrace, OfDirective}
 use Rattle.pct_top.specs.Output.{script_file, script_text, OfTaken}
-use Rattle.pct_top.specs.Outcome.{printed_of, GivesPrinted, ShowsFiles, Comes}
+use Rattle.pct_top.specs.CommandOutput.{printed_of, GivesPrinted, ShowsFiles, Comes}
 use Rattle.pct_top.specs.Files.{HasText, Misses, GivesTest, GivesText, GivesTrace, HasTrace}
 use Rattle.pct_top.specs.Files.{GivesDirective, HasDirective}
 use Rattle.pct_top.specs.Reads.{KeepsFile}
@@ -63,9 +63,9 @@ missed_after name failed middle failed' (Some one) (inl more) is = (
 
 -- what a failed read has for a cause has another cause
 pub comes_as : (of : Files → Printed → Type 0) (told : Option Files) (missed other : Type 0)
-    → (missed → other) → (r : Result Outcome Refusal) → Comes of told missed r
+    → (missed → other) → (r : Result CommandOutput Refusal) → Comes of told missed r
     → Comes of told other r
-comes_as of told missed other therefore (Ok outcome) h = h
+comes_as of told missed other therefore (Ok output) h = h
 comes_as of told missed other therefore (Err (Usage word)) h = h
 comes_as of told missed other therefore (Err (Script line kind)) h = h
 comes_as of told missed other therefore (Err (Trace line kind)) h = h
@@ -76,9 +76,9 @@ comes_as of told missed other therefore (Err Memory) h = h
 
 -- what may be printed whatever the files are, where none is read
 pub gives_comes : (of : Files → Printed → Type 0) (told : Option Files) (missed : Type 0)
-    (r : Result Outcome Refusal) → ((files : Files) → GivesPrinted (of files) r)
+    (r : Result CommandOutput Refusal) → ((files : Files) → GivesPrinted (of files) r)
     → Comes of told missed r
-gives_comes of told missed (Ok outcome) h = λ files e. h files
+gives_comes of told missed (Ok output) h = λ files e. h files
 gives_comes of told missed (Err (Usage word)) h = λ files e. h files
 gives_comes of told missed (Err (Script line kind)) h = λ files e. h files
 gives_comes of told missed (Err (Trace line kind)) h = λ files e. h files
@@ -155,9 +155,10 @@ module _ (told : Option Files) (names : NameLists) (items : List (List ℕ)) (wo
     ordered_shown printed h = λ files e. inl (order, gives, h files e)
 
     -- what comes of the order
-    pub ordered : (missed_second : Type 0) → (missed_second → missed) → (r : Result Outcome Refusal)
+    pub ordered : (missed_second : Type 0) → (missed_second → missed)
+        → (r : Result CommandOutput Refusal)
         → Comes (λ files. of files order) told missed_second r → Comes OfOrdered told missed r
-    ordered m therefore (Ok outcome) h = ordered_shown (printed_of outcome) h
+    ordered m therefore (Ok output) h = ordered_shown (printed_of output) h
     ordered m therefore (Err (Usage n)) h = ordered_shown (printed_refusal (Usage n)) h
     ordered m therefore (Err (Script line kind)) h =
         ordered_shown (printed_refusal (Script line kind)) h
@@ -198,10 +199,10 @@ module _ (told : Option Files) (source : Files → List ℕ)
         (plain_script test.script, spells files e, (test.deal, ready.is_deal, h files e))
 
     pub comes_tested : (missed_second : Type 0) → (missed_second → missed)
-        → (r : Result Outcome Refusal)
+        → (r : Result CommandOutput Refusal)
         → Comes (λ files. over files (plain_script test.script) test.deal)
         told missed_second r → Comes Of told missed r
-    comes_tested m therefore (Ok outcome) h = shown (printed_of outcome) h
+    comes_tested m therefore (Ok output) h = shown (printed_of output) h
     comes_tested m therefore (Err (Usage word)) h = shown (printed_refusal (Usage word)) h
     comes_tested m therefore (Err (Script line kind)) h =
         shown (printed_refusal (Script line kind)) h
@@ -216,9 +217,9 @@ module _ (told : Option Files) (source : Files → List ℕ)
 
 -- what is given for some files comes where these are told
 pub told_comes : (of : Files → Printed → Type 0) (files : Files) (missed : Type 0)
-    (r : Result Outcome Refusal) → GivesPrinted (of files) r → Comes of (Some files) missed r
-told_comes of files missed (Ok outcome) h = λ told e. let same : files ≡ told = cc in
-    subst (λ (f : Files). of f (printed_of outcome)) same h
+    (r : Result CommandOutput Refusal) → GivesPrinted (of files) r → Comes of (Some files) missed r
+told_comes of files missed (Ok output) h = λ told e. let same : files ≡ told = cc in
+    subst (λ (f : Files). of f (printed_of output)) same h
 told_comes of files missed (Err (Usage word)) h = λ told e. let same : files ≡ told = cc in
     subst (λ (f : Files). of f (printed_refusal (Usage word))) same h
 told_comes of files missed (Err (Script line kind)) h = λ told e. let same : files ≡ told = cc in
@@ -249,10 +250,10 @@ module _ (source : List ℕ) (over : ScriptText → Deal → Printed → Type 0)
         → OfScript source over printed
     given printed h = inl (plain_script test.script, spells, (test.deal, ready.is_deal, h))
 
-    pub given_tested : (r : Result Outcome Refusal)
+    pub given_tested : (r : Result CommandOutput Refusal)
         → GivesPrinted (over (plain_script test.script) test.deal) r
         → GivesPrinted (OfScript source over) r
-    given_tested (Ok outcome) h = given (printed_of outcome) h
+    given_tested (Ok output) h = given (printed_of output) h
     given_tested (Err (Usage word)) h = given (printed_refusal (Usage word)) h
     given_tested (Err (Script line kind)) h = given (printed_refusal (Script line kind)) h
     given_tested (Err (Trace line kind)) h = given (printed_refusal (Trace line kind)) h
@@ -307,7 +308,7 @@ module _ (settings : Settings) (name : List ℕ) (file_is : script_file settings
 
 -- what comes of some settings comes of the same
 pub comes_of_same : (settings other : Settings) → settings ≡ other → (before after : ShelfTold)
-    (r : Result Outcome Refusal)
+    (r : Result CommandOutput Refusal)
     → Comes (OfTaken (Ok other)) before.files (ReadFailed (Ok other) before after) r
     → Comes (OfTaken (Ok settings)) before.files (ReadFailed (Ok settings) before after) r
 comes_of_same settings other same before after r h =

@@ -7,8 +7,8 @@ use Rattle.script_tree.specs.Grammar.{Spells}
 use Rattle.pct_top.specs.declared.refusal.Refusal.{Refusal}
 use Rattle.pct_top.specs.declared.refusal.Refusal.TheVariants.{Usage, Script, Trace, Directive}
 use Rattle.pct_top.specs.declared.refusal.Refusal.TheVariants.{Read, Write, Memory}
-use Rattle.pct_top.specs.declared.outcome.Outcome.{Outcome}
-use Rattle.pct_top.specs.Outcome.{GivesPrinted}
+use Rattle.pct_top.specs.declared.command_output.CommandOutput.{CommandOutput}
+use Rattle.pct_top.specs.CommandOutput.{GivesPrinted}
 use Rattle.pct_top.specs.declared.settings.Settings.{Settings}
 use Rattle.pct_top.specs.declared.settings.Settings.TheVariants.{RunOrder, RunSeed, Campaign, Big}
 use Rattle.pct_top.specs.declared.settings.Settings.TheVariants.{Replay, Expose, Certify, Sweep}
@@ -22,7 +22,7 @@ use Rattle.pct_top.specs.Output.{script_file, script_text, order_given, second_f
 use Rattle.pct_top.specs.Files.{HasText}
 use Rattle.pct_outside.specs.Told.{ShelfTold, StreamTold}
 use Rattle.pct_top.specs.Reads.{ReadMade, is_read, is_unread, KeepsFile, KeepsSecond}
-use Rattle.pct_top.specs.Call.{LeavesShelf, PutsOutcome, RefusedFirst, IsCarriedOut}
+use Rattle.pct_top.specs.Call.{LeavesShelf, PutsOutput, RefusedFirst, IsCarriedOut}
 use Rattle.pct_top.specs.Call.{is_read_fault}
 
 -- ---- the reads of a call
@@ -114,7 +114,7 @@ module _ (asked : Settings) (unread : Bool) (before after : ShelfTold)
 
 -- what is put is no read
 pub put_is_read : (printed : Printed) (before after : StreamTold) (r : Result Status Refusal)
-    → PutsOutcome printed before after r → is_unread r ≡ false
+    → PutsOutput printed before after r → is_unread r ≡ false
 put_is_read printed before after (Ok status) h = refl
 put_is_read printed before after (Err (Usage word)) h = absurd h
 put_is_read printed before after (Err (Script line kind)) h = absurd h
@@ -125,9 +125,9 @@ put_is_read printed before after (Err Write) h = refl
 put_is_read printed before after (Err Memory) h = refl
 
 -- what is printed is no read
-pub given_is_read : (of : Printed → Type 0) (r : Result Outcome Refusal) → GivesPrinted of r
+pub given_is_read : (of : Printed → Type 0) (r : Result CommandOutput Refusal) → GivesPrinted of r
     → is_unread r ≡ false
-given_is_read of (Ok outcome) h = refl
+given_is_read of (Ok output) h = refl
 given_is_read of (Err (Usage word)) h = refl
 given_is_read of (Err (Script line kind)) h = refl
 given_is_read of (Err (Trace line kind)) h = refl

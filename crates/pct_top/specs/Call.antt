@@ -19,7 +19,7 @@ use Rattle.pct_top.specs.Ordered.{OrderFits}
 use Rattle.pct_top.specs.Printed.{Files, Printed, printed_refusal}
 use Rattle.pct_top.specs.Output.{script_file, script_text, order_given, second_file, SecondFits}
 use Rattle.pct_top.specs.Output.{OfTaken, Output}
-use Rattle.pct_top.specs.Outcome.{ShowsFiles}
+use Rattle.pct_top.specs.CommandOutput.{ShowsFiles}
 use Rattle.pct_top.specs.Files.{Misses}
 use Rattle.pct_top.specs.Reads.{ReadMade, KeepsReads, some_failed}
 use Rattle.pct_outside.specs.Told.{ShelfTold, StreamTold}
@@ -122,13 +122,13 @@ abbrev pub IsRefusing : StreamTold → StreamTold → Type 0
 IsRefusing before after = Rose before.faults after.faults
 
 -- This is put, or a part of it where the output's fault shows or there is no memory.
-abbrev pub PutsOutcome : Printed → StreamTold → StreamTold → Result Status Refusal → Type 0
-PutsOutcome printed before after (Ok status) = PutsAll before after status printed
-PutsOutcome printed before after (Err Write) =
+abbrev pub PutsOutput : Printed → StreamTold → StreamTold → Result Status Refusal → Type 0
+PutsOutput printed before after (Ok status) = PutsAll before after status printed
+PutsOutput printed before after (Err Write) =
     IsRefusing before after × IsPartAppended printed.out before.written after.written
-PutsOutcome printed before after (Err Memory) =
+PutsOutput printed before after (Err Memory) =
     IsPartAppended printed.out before.written after.written
-PutsOutcome printed before after (Err refusal) = ⊥
+PutsOutput printed before after (Err refusal) = ⊥
 
 -- where the words aren't taken, the answer says which, want of memory aside
 abbrev pub RefusedFirst : SettingsOrWord → Result Status Refusal → Type 0

@@ -13,7 +13,7 @@ pub mod Runs
 pub mod commands
 pub mod Reports
 pub mod Output
-pub mod Outcome
+pub mod CommandOutput
 pub mod Files
 pub mod Reads
 pub mod Call

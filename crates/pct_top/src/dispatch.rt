@@ -1,18 +1,18 @@
-//! From the settings to a command's outcome.
+//! From the settings to a command's output.
 
 ghost use Rattle.std.specs.Prelude.{◌≡◌, Ok, None};
 ghost use Rattle.pct_top.specs.Settings.{AreLawful};
 ghost use Rattle.pct_top.specs.Plan.{asked};
 ghost use Rattle.pct_top.specs.Printed.{Files};
 ghost use Rattle.pct_top.specs.Output.{script_file, OfTaken};
-ghost use Rattle.pct_top.specs.Outcome.{GivesPrinted, Comes};
+ghost use Rattle.pct_top.specs.CommandOutput.{GivesPrinted, Comes};
 ghost use Rattle.pct_top.specs.Reads.{is_unread};
 ghost use Rattle.pct_top.specs.Call.{ReadFailed, LeavesShelf};
 
-use crate::commands::big::big_outcome;
+use crate::command_output::CommandOutput;
+use crate::commands::big::big_output;
 use crate::files::read_test;
 use crate::job::Job;
-use crate::outcome::Outcome;
 use crate::plan::{Plan, plan_of};
 use crate::refusal::Refusal;
 use crate::settings::Settings;
@@ -29,7 +29,7 @@ fn over_file<R: Threads + Wait + Sync, H: Shelf, G: Gate>(
     job: &Job,
     shelf: &mut H,
     gate: &G,
-) -> Result<Outcome, Refusal>
+) -> Result<CommandOutput, Refusal>
     ensures comes { Comes (OfTaken (Ok (asked file.now job.now))) (H.files shelf.old)
         (ReadFailed (Ok (asked file.now job.now))
         (record { files = H.files shelf.old; failed = H.failed shelf.old })
@@ -40,18 +40,18 @@ fn over_file<R: Threads + Wait + Sync, H: Shelf, G: Gate>(
 {
     match read_test(alloc, file, shelf) {
         Err(refusal) => Err(refusal),
-        Ok(test) => job.outcome(rt, alloc, &test, shelf, gate),
+        Ok(test) => job.output(rt, alloc, &test, shelf, gate),
     }
 }
 
 /// What the settings ask for.
-pub fn outcome_of<R: Threads + Wait + Sync, H: Shelf, G: Gate>(
+pub fn output_of<R: Threads + Wait + Sync, H: Shelf, G: Gate>(
     rt: &R,
     alloc: Global,
     settings: Settings,
     shelf: &mut H,
     gate: &G,
-) -> Result<Outcome, Refusal>
+) -> Result<CommandOutput, Refusal>
     requires { AreLawful settings }
     ensures comes { Comes (OfTaken (Ok settings)) (H.files shelf.old)
         (ReadFailed (Ok settings)
@@ -64,7 +64,7 @@ pub fn outcome_of<R: Threads + Wait + Sync, H: Shelf, G: Gate>(
         (record { files = H.files shelf.new; failed = H.failed shelf.new }) }
 {
     match plan_of(settings) {
-        Plan::Big { pieces, serve } => big_outcome(rt, alloc, pieces, serve, gate),
+        Plan::Big { pieces, serve } => big_output(rt, alloc, pieces, serve, gate),
         Plan::OfFile { file, job } => over_file(rt, alloc, file.as_str(), &job, shelf, gate),
     }
 }

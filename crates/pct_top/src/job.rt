@@ -6,16 +6,16 @@ ghost use Rattle.pct_top.specs.Plan.{asked};
 ghost use Rattle.pct_top.specs.Ready.{IsReadyTest};
 ghost use Rattle.pct_top.specs.Ordered.{OrderFits};
 ghost use Rattle.pct_top.specs.Output.{order_given, second_file, OfCommand};
-ghost use Rattle.pct_top.specs.Outcome.{Comes};
+ghost use Rattle.pct_top.specs.CommandOutput.{Comes};
 ghost use Rattle.pct_top.specs.Reads.{KeepsSecond, is_unread};
 ghost use Rattle.pct_top.specs.Call.{MissesSecond};
 
+use crate::command_output::CommandOutput;
 use crate::commands::certify::CertifyJob;
 use crate::commands::every::SweepJob;
 use crate::commands::expose::ExposeJob;
 use crate::commands::replay::{ReplayJob, reply_to_file};
 use crate::commands::seeds::CampaignJob;
-use crate::outcome::Outcome;
 use crate::refusal::Refusal;
 use crate::reports::{OrderedRun, SeededRun};
 use crate::test::ReadyTest;
@@ -38,14 +38,14 @@ pub enum Job {
 
 impl Job {
     /// What comes of it over a script, for which at most the second file is read.
-    pub fn outcome<R: Threads + Wait + Sync, H: Shelf, G: Gate>(
+    pub fn output<R: Threads + Wait + Sync, H: Shelf, G: Gate>(
         &self,
         rt: &R,
         alloc: Global,
         test: &ReadyTest,
         shelf: &mut H,
         gate: &G,
-    ) -> Result<Outcome, Refusal>
+    ) -> Result<CommandOutput, Refusal>
         requires ready { IsReadyTest test.now }
         ensures comes { (file : List ℕ) → Comes
             (λ files. OfCommand (asked file self.now) files (plain_script test.now.script)

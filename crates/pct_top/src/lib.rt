@@ -16,6 +16,7 @@
 
 mod cleared;
 mod command;
+mod command_output;
 mod commands;
 mod confirmed;
 mod dispatch;
@@ -24,7 +25,6 @@ mod job;
 mod lines;
 mod options;
 mod order;
-mod outcome;
 mod plan;
 mod playing;
 mod printing;

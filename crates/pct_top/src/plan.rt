@@ -1,7 +1,6 @@
 //! What the settings come to: a job, and the script that it is done with.
 
-ghost use Rattle.std.specs.Prelude.{◌≡◌, IfSome};
-ghost use Rattle.pct_ask.specs.Limits.{IsStepCount};
+ghost use Rattle.std.specs.Prelude.{◌≡◌};
 ghost use Rattle.pct_top.specs.Settings.{AreLawful};
 ghost use Rattle.pct_top.specs.Plan.{asked_by};
 
@@ -24,17 +23,6 @@ pub enum Plan {
     Big { pieces: u32, serve: Serve },
     /// A job over the script of a file.
     OfFile { file: Text, job: Job },
-}
-
-/// A number of steps that may be given, as a limit.
-fn limit_in(steps: Option<u32>) -> Option<Limit>
-    requires { IfSome steps IsStepCount }
-    ensures { result ≡ steps }
-{
-    match steps {
-        Some(steps) => Some(Limit::new(steps)),
-        None => None,
-    }
 }
 
 /// The plan that the settings ask for.
@@ -73,7 +61,7 @@ pub fn plan_of(settings: Settings) -> Plan
             job: Job::Seeded(SeededRun {
                 seed,
                 depth: Depth::new(depth),
-                steps: limit_in(steps),
+                steps: steps.map(Limit::new),
                 limit: Limit::new(limit),
                 report,
             }),
@@ -93,7 +81,7 @@ pub fn plan_of(settings: Settings) -> Plan
                 first,
                 count,
                 depth: Depth::new(depth),
-                steps: limit_in(steps),
+                steps: steps.map(Limit::new),
                 limit: Limit::new(limit),
                 json,
                 serve,
@@ -146,7 +134,7 @@ pub fn plan_of(settings: Settings) -> Plan
             file,
             job: Job::Sweep(SweepJob {
                 depth: Depth::new(depth),
-                steps: limit_in(steps),
+                steps: steps.map(Limit::new),
                 limit: Limit::new(limit),
                 json,
                 serve,

@@ -4,12 +4,12 @@ ghost use Rattle.std.specs.Prelude.{◌≡◌, IfOk, length};
 ghost use Rattle.script_tree.specs.ScriptSeen.{plain_script};
 ghost use Rattle.pct_top.specs.Ready.{IsReadyTest};
 ghost use Rattle.pct_top.specs.Settings.{ArePoints};
-ghost use Rattle.pct_top.specs.Outcome.{printed_of, GivesPrinted};
+ghost use Rattle.pct_top.specs.CommandOutput.{printed_of, GivesPrinted};
 ghost use Rattle.pct_top.specs.Reports.{OfReport, OfOrdered, OfSeed};
 
+use crate::command_output::CommandOutput;
 use crate::commands::{find, locks, races, run};
 use crate::order::order_given;
-use crate::outcome::Outcome;
 use crate::refusal::Refusal;
 use crate::run_plan::{RunPlan, drawn, steps_of};
 use crate::settings::Report;
@@ -30,11 +30,11 @@ fn report_of<R: Threads + Wait + Sync, G: Gate>(
     test: &ReadyTest,
     plan: RunPlan,
     gate: &G,
-) -> Result<Outcome, NoMemory>
+) -> Result<CommandOutput, NoMemory>
     requires ready { IsReadyTest test.now }
     requires whole { length plan.order ≡ test.now.deal.threads }
-    ensures { IfOk result (λ outcome. OfReport report (plain_script test.now.script) test.now.deal
-        plan.order plan.points plan.limit (printed_of outcome)) }
+    ensures { IfOk result (λ output. OfReport report (plain_script test.now.script) test.now.deal
+        plan.order plan.points plan.limit (printed_of output)) }
 {
     match report {
         Report::Trace => run::trace_of(rt, alloc, test, plan, gate),
@@ -63,7 +63,7 @@ impl OrderedRun {
         alloc: Global,
         test: &ReadyTest,
         gate: &G,
-    ) -> Result<Outcome, Refusal>
+    ) -> Result<CommandOutput, Refusal>
         requires ready { IsReadyTest test.now }
         ensures { GivesPrinted (OfOrdered self.now.order self.now.word self.now.points
             self.now.limit self.now.report (plain_script test.now.script) test.now.deal) result }
@@ -102,11 +102,11 @@ impl SeededRun {
         alloc: Global,
         test: &ReadyTest,
         gate: &G,
-    ) -> Result<Outcome, NoMemory>
+    ) -> Result<CommandOutput, NoMemory>
         requires ready { IsReadyTest test.now }
-        ensures { IfOk result (λ outcome. OfSeed self.now.seed self.now.depth self.now.steps
+        ensures { IfOk result (λ output. OfSeed self.now.seed self.now.depth self.now.steps
             self.now.limit self.now.report (plain_script test.now.script) test.now.deal
-            (printed_of outcome)) }
+            (printed_of output)) }
     {
         let serve = Serve::Threads;
         let steps = steps_of(rt, alloc, test, self.steps, self.limit, serve, gate)?;

@@ -3,14 +3,14 @@
 ghost use Rattle.std.specs.Prelude.{Ok, Some};
 ghost use Rattle.pct_outside.specs.Reading.{texts_of};
 ghost use Rattle.pct_top.specs.Settings.{settings, AreLawful};
-ghost use Rattle.pct_top.specs.Outcome.{printed_of};
+ghost use Rattle.pct_top.specs.CommandOutput.{printed_of};
 ghost use Rattle.pct_top.specs.Printed.{Files};
 ghost use Rattle.pct_top.specs.Reads.{is_unread};
-ghost use Rattle.pct_top.specs.Call.{PutsOutcome, RefusedFirst, Answers, LeavesShelf, ReadsNone};
+ghost use Rattle.pct_top.specs.Call.{PutsOutput, RefusedFirst, Answers, LeavesShelf, ReadsNone};
 ghost use Rattle.pct_top.specs.Call.{IsCall};
 
-use crate::dispatch::outcome_of;
-use crate::outcome::Outcome;
+use crate::command_output::CommandOutput;
+use crate::dispatch::output_of;
 use crate::printing::{put_lines, say};
 use crate::refusal::Refusal;
 use crate::settings::Settings;
@@ -21,8 +21,8 @@ use std::alloc::Global;
 use std::sync::Wait;
 use std::thread::Threads;
 
-fn put_outcome<O: Sink>(outcome: &Outcome, out: &mut O) -> Result<Status, Refusal>
-    ensures { PutsOutcome (printed_of outcome.now)
+fn put_output<O: Sink>(output: &CommandOutput, out: &mut O) -> Result<Status, Refusal>
+    ensures { PutsOutput (printed_of output.now)
         (record {
           written = O.written out.old;
           faults = O.faults out.old;
@@ -35,8 +35,8 @@ fn put_outcome<O: Sink>(outcome: &Outcome, out: &mut O) -> Result<Status, Refusa
         })
         result }
 {
-    put_lines(out, outcome.text.as_slice())?;
-    Ok(outcome.status())
+    put_lines(out, output.text.as_slice())?;
+    Ok(output.status())
 }
 
 /// What the settings ask for, put on the output.
@@ -82,9 +82,9 @@ fn print_settings<R: Threads + Wait + Sync, H: Shelf, O: Sink, G: Gate>(
         (record { files = H.files shelf.old; failed = H.failed shelf.old })
         (record { files = H.files shelf.new; failed = H.failed shelf.new }) }
 {
-    match outcome_of(rt, alloc, settings, shelf, gate) {
+    match output_of(rt, alloc, settings, shelf, gate) {
         Err(refusal) => Err(refusal),
-        Ok(outcome) => put_outcome(&outcome, out),
+        Ok(output) => put_output(&output, out),
     }
 }
 

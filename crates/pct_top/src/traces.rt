@@ -5,9 +5,9 @@ ghost use Rattle.script_tree.specs.ScriptSeen.{plain_script};
 ghost use Rattle.trace_text.specs.Lawful.{IsKnownRun};
 ghost use Rattle.pct_top.specs.Runs.{trace_version as version_by, is_passed as is_passed_by};
 ghost use Rattle.pct_top.specs.Runs.{TellsRun};
-ghost use Rattle.pct_top.specs.Outcome.{printed_of};
+ghost use Rattle.pct_top.specs.CommandOutput.{printed_of};
 
-use crate::outcome::Outcome;
+use crate::command_output::CommandOutput;
 use crate::run_plan::RunPlan;
 use pct_ask::Verdict;
 use script_tree::Script;
@@ -36,13 +36,13 @@ pub fn told_trace(
     plan: RunPlan,
     run: &WholeRun,
     done: bool,
-) -> Result<Outcome, NoMemory>
+) -> Result<CommandOutput, NoMemory>
     requires whole { length plan.order ≡ length script.now.names.threads }
     requires known { IsKnownRun script.now.names (version_by (plain_script script.now)) plan.limit
         run.now.events run.now.verdict }
-    ensures { IfOk result (λ outcome.
+    ensures { IfOk result (λ output.
         TellsRun (plain_script script.now) plan.order plan.points plan.limit
-        (run.now.events, run.now.verdict) done (printed_of outcome)) }
+        (run.now.events, run.now.verdict) done (printed_of output)) }
 {
     let header = Header {
         version: trace_version(script),
@@ -57,5 +57,5 @@ pub fn told_trace(
         run.events.as_slice(),
         &run.verdict,
     )?;
-    Ok(Outcome { text, done })
+    Ok(CommandOutput { text, done })
 }

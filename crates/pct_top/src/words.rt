@@ -119,7 +119,7 @@ fn replay_words(alloc: Global, words: &[String]) -> Result<Settings, WordsError>
 {
     let (file, others) = split_word(words, 2)?;
     let (trace, others) = split_word(others, 3)?;
-    let (_, _) = options_in(alloc, Command::Replay, 4, others)?;
+    options_in(alloc, Command::Replay, 4, others)?; // takes none: a word here is refused
     Ok(Settings::Replay {
         file: Text::copy_of(alloc, file)?,
         trace: Text::copy_of(alloc, trace)?,

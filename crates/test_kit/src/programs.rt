@@ -4,7 +4,9 @@ ghost use Rattle.trace_text.specs.Trace.{head_of};
 ghost use Rattle.kit_runs.specs.Runs.{head_with};
 
 use crate::counters::Counters;
-use kit_runs::{Findings, Replayed, RunError, Seeds, campaign, replay, run_program, small_deal};
+use kit_runs::{
+    Confirmation, Findings, RunError, Seeds, campaign, replay, run_program, small_deal,
+};
 use kit_text::{ShownGroups, ShownVerdict, TextError, show_report, show_run};
 use pct_ask::{Deal, NameKind, Names, Verdict, is_lawful_name};
 use std::alloc::{AllocError as NoMemory, Global};
@@ -107,26 +109,26 @@ fn shows_no_run_of_another_deal(rt: HostRuntime) -> Result<(), Fail> {
     Ok(())
 }
 
-fn replayed<R: Threads + Wait + Sync>(
+fn confirmation_of<R: Threads + Wait + Sync>(
     rt: &R,
     alloc: Global,
     file: &TraceFile,
-) -> Result<Replayed, RunError>
+) -> Result<Confirmation, RunError>
     requires { head_of file.now.header ≡ head_with 1 (0 ∷ 1 ∷ 2 ∷ []) (1 ∷ []) 10000 }
 {
     let deal = small_deal(alloc, 3, &[0], 0, 0)?;
-    let replayed = replay(rt, alloc, &deal, file, &Counters);
+    let confirmation = replay(rt, alloc, &deal, file, &Counters);
     drop(deal);
-    replayed
+    confirmation
 }
 
 #[test]
 fn replays_a_run(rt: HostRuntime) -> Result<(), Fail> {
     let alloc = rt.alloc();
     let file = counted(&rt, alloc)?;
-    let replayed = replayed(&rt, alloc, &file);
+    let confirmation = confirmation_of(&rt, alloc, &file);
     drop(file);
-    assert_eq!(rt; replayed?, Replayed::Confirmed(FAILED));
+    assert_eq!(rt; confirmation?, Confirmation::Confirmed(FAILED));
     Ok(())
 }
 

@@ -11,7 +11,7 @@ use Rattle.report_text.specs.declared.frame.Frame.{Frame}
 use Rattle.report_text.specs.declared.swept.SweptGroup.{SweptGroup}
 use Rattle.report_text.specs.SweepText.{sweep_text_of}
 use Rattle.report_text.specs.SweepJson.{sweep_json_of}
-use Rattle.sweep.specs.Choices.{choices, choice_count}
+use Rattle.sweep.specs.Choices.{choices}
 use Rattle.sweep.specs.Rows.{Setup}
 use Rattle.sweep.specs.Swept.{Sweeps}
 use Rattle.sweep.specs.declared.choice.Choice.{Choice}
@@ -35,10 +35,6 @@ swept_setup script deal depth steps limit = record {
 -- all choices of the report's frame, in their order
 abbrev pub choices_in : Frame → List Choice
 choices_in frame = choices frame.threads frame.steps (frame.depth - 1)
-
--- how many they are
-abbrev pub count_in : Frame → ℕ
-count_in frame = choice_count frame.threads frame.steps (frame.depth - 1)
 
 -- a group as it is told: with its first choice, in place of that choice's place among all
 abbrev pub told_as : Group → Choice → SweptGroup

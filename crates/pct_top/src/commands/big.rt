@@ -8,13 +8,13 @@ ghost use Rattle.script_tree.specs.ScriptSeen.{plain_script};
 ghost use Rattle.large_script.specs.Large.{large_script};
 ghost use Rattle.pct_top.specs.Ready.{IsReadyTest};
 ghost use Rattle.pct_top.specs.Printed.{OfScript};
-ghost use Rattle.pct_top.specs.Outcome.{printed_of, GivesPrinted};
+ghost use Rattle.pct_top.specs.CommandOutput.{printed_of, GivesPrinted};
 ghost use Rattle.pct_top.specs.commands.Big.{failures as failures_by, big_lines, OfBig};
 
+use crate::command_output::CommandOutput;
 use crate::commands::seeds::all_pass;
 use crate::files::large_test;
 use crate::lines::{push_count, push_size};
-use crate::outcome::Outcome;
 use crate::refusal::Refusal;
 use crate::run_plan::steps_of;
 use crate::test::ReadyTest;
@@ -77,11 +77,11 @@ fn big_of<R: Threads + Wait + Sync, G: Gate>(
     pieces: u32,
     serve: Serve,
     gate: &G,
-) -> Result<Outcome, NoMemory>
+) -> Result<CommandOutput, NoMemory>
     requires ready { IsReadyTest test.now }
     requires pieces { pieces ≤ 100 }
-    ensures { IfOk result (λ outcome.
-        OfBig pieces (plain_script test.now.script) test.now.deal (printed_of outcome)) }
+    ensures { IfOk result (λ output.
+        OfBig pieces (plain_script test.now.script) test.now.deal (printed_of output)) }
 {
     let (first, count) = SEEDS;
     let depth = Depth::new(DEPTH);
@@ -100,17 +100,17 @@ fn big_of<R: Threads + Wait + Sync, G: Gate>(
         groups.as_slice(),
     )?;
     let done = all_pass(rows.as_slice());
-    Ok(Outcome { text, done })
+    Ok(CommandOutput { text, done })
 }
 
 /// The same counts, with the large script printed and parsed.
-pub fn big_outcome<R: Threads + Wait + Sync, G: Gate>(
+pub fn big_output<R: Threads + Wait + Sync, G: Gate>(
     rt: &R,
     alloc: Global,
     pieces: u32,
     serve: Serve,
     gate: &G,
-) -> Result<Outcome, Refusal>
+) -> Result<CommandOutput, Refusal>
     requires { pieces ≤ 100 }
     ensures { GivesPrinted (OfScript (layout (large_script pieces)) (OfBig pieces)) result }
 {

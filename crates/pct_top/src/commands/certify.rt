@@ -13,15 +13,15 @@ ghost use Rattle.pct_top.specs.Ready.{IsReadyTest};
 ghost use Rattle.pct_top.specs.Printed.{directive_bytes};
 ghost use Rattle.pct_top.specs.Files.{Misses};
 ghost use Rattle.pct_top.specs.Reads.{KeepsFile, is_unread};
-ghost use Rattle.pct_top.specs.Outcome.{printed_of, Comes};
+ghost use Rattle.pct_top.specs.CommandOutput.{printed_of, Comes};
 ghost use Rattle.pct_top.specs.commands.Certify.{order_words, certificate_row_words, bound_words};
 ghost use Rattle.pct_top.specs.commands.Certify.{certificate_text, is_certified as is_certified_by};
 ghost use Rattle.pct_top.specs.commands.Certify.{PrintsCertificate, OfCertify};
 ghost use Rattle.pct_top.specs.commands.KnownCertificate.{IsKnownCertificate};
 
+use crate::command_output::CommandOutput;
 use crate::files::read_directed;
 use crate::lines::{push_count, push_number, push_verdict};
-use crate::outcome::Outcome;
 use crate::refusal::Refusal;
 use crate::test::ReadyTest;
 use crate::text::Text;
@@ -163,19 +163,19 @@ impl CertifyJob {
         test: &ReadyTest,
         directive: &Directive,
         gate: &G,
-    ) -> Result<Outcome, NoMemory>
+    ) -> Result<CommandOutput, NoMemory>
         requires ready { IsReadyTest test.now }
         requires directive { (bytes : List ℕ)
             × IsDirective bytes (plain_script test.now.script).names (plain directive.now) }
-        ensures { IfOk result (λ outcome. PrintsCertificate (plain_script test.now.script)
-            test.now.deal self.now.steps self.now.limit directive.now (printed_of outcome)) }
+        ensures { IfOk result (λ output. PrintsCertificate (plain_script test.now.script)
+            test.now.deal self.now.steps self.now.limit directive.now (printed_of output)) }
     {
         let certified = certify_by(
             rt, alloc, &test.code, &test.deal, directive, self.steps, self.limit, self.serve, gate,
         )?;
         let text = write_certificate(alloc, test.script.names(), &certified)?;
         let done = is_certified(&certified);
-        Ok(Outcome { text, done })
+        Ok(CommandOutput { text, done })
     }
 
     pub fn certify_file<R: Threads + Wait + Sync, H: Shelf, G: Gate>(
@@ -186,7 +186,7 @@ impl CertifyJob {
         directive: &str,
         shelf: &mut H,
         gate: &G,
-    ) -> Result<Outcome, Refusal>
+    ) -> Result<CommandOutput, Refusal>
         requires ready { IsReadyTest test.now }
         ensures comes { Comes
             (λ files. OfCertify (take directive_bytes (files directive.now)) self.now.steps

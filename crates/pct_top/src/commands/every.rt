@@ -1,23 +1,22 @@
 //! `sweep`: what every choice of an order and change points leads to.
 
-ghost use Rattle.std.specs.Prelude.{◌≡◌, ◌≤◌, ◌<◌, List, Some, All, IfOk, map};
+ghost use Rattle.std.specs.Prelude.{◌≡◌, ◌≤◌, ◌<◌, ◌-◌, All, IfOk};
 ghost use Rattle.script_tree.specs.ScriptSeen.{plain_script};
 ghost use Rattle.report_text.specs.Report.{IsTellable};
-ghost use Rattle.report_text.specs.declared.swept.SweptGroup.{SweptGroup};
-ghost use Rattle.failure_rank.specs.declared.group.Group.{Group};
-ghost use Rattle.sweep.specs.Choices.{most_choices};
+ghost use Rattle.sweep.specs.Choices.{choice_count, most_choices};
 ghost use Rattle.pct_top.specs.Ready.{IsReadyTest};
-ghost use Rattle.pct_top.specs.Outcome.{printed_of};
-ghost use Rattle.pct_top.specs.commands.Sweep.{count_in, told_group, AreTold, sweep_report};
+ghost use Rattle.pct_top.specs.CommandOutput.{printed_of};
+ghost use Rattle.pct_top.specs.commands.Campaign.{frame_of as frame_by};
+ghost use Rattle.pct_top.specs.commands.Sweep.{told_as, AreTold, sweep_report};
 ghost use Rattle.pct_top.specs.commands.Sweep.{too_many_text, OfSweep};
 
+use crate::command_output::CommandOutput;
 use crate::commands::seeds::frame_of;
 use crate::lines::push_count;
-use crate::outcome::Outcome;
 use crate::run_plan::steps_of;
 use crate::test::ReadyTest;
 use failure_rank::Group;
-use pct_ask::{Depth, Limit};
+use pct_ask::{Deal, Depth, Limit};
 use pct_outside::Gate;
 use report_text::{Frame, SweptGroup, sweep_json, sweep_text};
 use script_tree::Script;
@@ -28,42 +27,17 @@ use sweep::{Answer, Choice, Swept, choice_at, sweep};
 use worker_run::Serve;
 
 /// A group as it is told: with its first choice, in place of that choice's place among all.
-fn told_group(alloc: Global, frame: &Frame, group: &Group) -> Result<SweptGroup, NoMemory>
-    requires depth { 1 ≤ frame.now.depth }
-    requires steps { 1 ≤ frame.now.steps }
-    requires few { count_in frame.now ≤ most_choices }
-    requires first { group.now.first < count_in frame.now }
-    ensures { IfOk result (λ told. told_group frame.now group.now ≡ Some told) }
+fn told_as(group: &Group, choice: Choice) -> SweptGroup
+    ensures { result ≡ told_as group.now choice }
 {
-    let Choice { order, points } = choice_at(
-        alloc,
-        frame.threads,
-        frame.steps,
-        frame.depth - 1,
-        group.first as u32,
-    )?;
-    Ok(SweptGroup {
+    let Choice { order, points } = choice;
+    SweptGroup {
         count: group.count,
         steps: group.steps,
         order,
         points,
         verdict: group.verdict,
-    })
-}
-
-/// The groups as they are told.
-fn told_groups(alloc: Global, frame: &Frame, groups: &[Group]) -> Result<Vec<SweptGroup>, NoMemory>
-    requires depth { 1 ≤ frame.now.depth }
-    requires steps { 1 ≤ frame.now.steps }
-    requires few { count_in frame.now ≤ most_choices }
-    requires first { All (λ group. group.first < count_in frame.now) groups.now }
-    ensures { IfOk result (λ told. AreTold frame.now groups.now told.items) }
-{
-    let mut told = Vec::new(alloc);
-    for group in groups {
-        told.push(told_group(alloc, frame, group)?)?;
     }
-    Ok(told)
 }
 
 /// The report as JSON or as a text.
@@ -107,16 +81,46 @@ pub struct SweepJob {
 }
 
 impl SweepJob {
+    /// The groups as they are told.
+    fn told_groups(
+        &self,
+        alloc: Global,
+        deal: &Deal,
+        steps: Limit,
+        groups: &[Group],
+    ) -> Result<Vec<SweptGroup>, NoMemory>
+        requires few { choice_count deal.now.threads steps (self.now.depth - 1) ≤ most_choices }
+        requires first { All
+            (λ group. group.first < choice_count deal.now.threads steps (self.now.depth - 1))
+            groups.now }
+        ensures { IfOk result (λ told.
+            AreTold (frame_by deal.now self.now.depth steps self.now.limit) groups.now
+            told.items) }
+    {
+        let mut told = Vec::new(alloc);
+        for group in groups {
+            let choice = choice_at(
+                alloc,
+                deal.threads,
+                steps.steps(),
+                self.depth.points(),
+                group.first as u32,
+            )?;
+            told.push(told_as(group, choice))?;
+        }
+        Ok(told)
+    }
+
     pub fn report_on<R: Threads + Wait + Sync, G: Gate>(
         &self,
         rt: &R,
         alloc: Global,
         test: &ReadyTest,
         gate: &G,
-    ) -> Result<Outcome, NoMemory>
+    ) -> Result<CommandOutput, NoMemory>
         requires ready { IsReadyTest test.now }
-        ensures { IfOk result (λ outcome. OfSweep self.now.depth self.now.steps self.now.limit
-            self.now.json (plain_script test.now.script) test.now.deal (printed_of outcome)) }
+        ensures { IfOk result (λ output. OfSweep self.now.depth self.now.steps self.now.limit
+            self.now.json (plain_script test.now.script) test.now.deal (printed_of output)) }
     {
         let steps = steps_of(rt, alloc, test, self.steps, self.limit, self.serve, gate)?;
         let frame = frame_of(test, self.depth, steps, self.limit);
@@ -133,13 +137,13 @@ impl SweepJob {
             gate,
         )? {
             Answer::Whole(swept) => {
-                let told = told_groups(alloc, &frame, swept.groups.as_slice())?;
+                let told = self.told_groups(alloc, &test.deal, steps, swept.groups.as_slice())?;
                 let told = told.as_slice();
                 let text = write_report(alloc, self.json, &test.script, &frame, &swept, told)?;
                 let done = swept.groups.len() == 0;
-                Ok(Outcome { text, done })
+                Ok(CommandOutput { text, done })
             }
-            Answer::TooMany => Ok(Outcome {
+            Answer::TooMany => Ok(CommandOutput {
                 text: too_many(alloc, frame.threads)?,
                 done: false,
             }),

@@ -10,13 +10,13 @@ ghost use Rattle.pct_top.specs.Ordered.{OrderFits};
 ghost use Rattle.pct_top.specs.Printed.{directive_bytes};
 ghost use Rattle.pct_top.specs.Files.{Misses};
 ghost use Rattle.pct_top.specs.Reads.{KeepsSecond, is_unread};
-ghost use Rattle.pct_top.specs.Outcome.{printed_of, Comes};
+ghost use Rattle.pct_top.specs.CommandOutput.{printed_of, Comes};
 ghost use Rattle.pct_top.specs.commands.Expose.{long_text, TellsExposed, PrintsExposed, OfExpose};
 
+use crate::command_output::CommandOutput;
 use crate::files::read_directed;
 use crate::lines::push_count;
 use crate::order::order_given;
-use crate::outcome::Outcome;
 use crate::refusal::Refusal;
 use crate::run_plan::RunPlan;
 use crate::test::ReadyTest;
@@ -61,14 +61,14 @@ impl ExposeJob {
         plan: RunPlan,
         directive: &Directive,
         exposed: Exposed,
-    ) -> Result<Outcome, NoMemory>
+    ) -> Result<CommandOutput, NoMemory>
         requires ready { IsReadyTest test.now }
         requires whole { length plan.order ≡ test.now.deal.threads }
         requires exposed { Exposes test.now.deal (bodies_of (plain_script test.now.script))
             plan.order directive.now.events self.now.steps plan.limit exposed }
         ensures { IfOk result
-            (λ outcome. TellsExposed (plain_script test.now.script) test.now.deal plan.order
-            plan.limit directive.now.verdict exposed (printed_of outcome)) }
+            (λ output. TellsExposed (plain_script test.now.script) test.now.deal plan.order
+            plan.limit directive.now.verdict exposed (printed_of output)) }
     {
         match exposed {
             Exposed::Points { points, played } => {
@@ -86,7 +86,7 @@ impl ExposeJob {
                 };
                 told_trace(alloc, &test.script, plan, &run, done)
             }
-            Exposed::TooLong { steps } => Ok(Outcome {
+            Exposed::TooLong { steps } => Ok(CommandOutput {
                 text: write_long(alloc, steps)?,
                 done: false,
             }),
@@ -102,12 +102,12 @@ impl ExposeJob {
         plan: RunPlan,
         directive: &Directive,
         gate: &G,
-    ) -> Result<Outcome, NoMemory>
+    ) -> Result<CommandOutput, NoMemory>
         requires ready { IsReadyTest test.now }
         requires whole { length plan.order ≡ test.now.deal.threads }
         ensures { IfOk result
-            (λ outcome. PrintsExposed (plain_script test.now.script) test.now.deal plan.order
-            self.now.steps plan.limit directive.now (printed_of outcome)) }
+            (λ output. PrintsExposed (plain_script test.now.script) test.now.deal plan.order
+            self.now.steps plan.limit directive.now (printed_of output)) }
     {
         let exposed = expose(
             rt,
@@ -131,7 +131,7 @@ impl ExposeJob {
         directive: &str,
         shelf: &mut H,
         gate: &G,
-    ) -> Result<Outcome, Refusal>
+    ) -> Result<CommandOutput, Refusal>
         requires ready { IsReadyTest test.now }
         ensures comes { Comes
             (λ files. OfExpose (take directive_bytes (files directive.now)) self.now.order

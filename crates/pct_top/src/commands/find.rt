@@ -3,13 +3,13 @@
 ghost use Rattle.std.specs.Prelude.{◌≡◌, ◌≤◌, ◌<◌, length, IfOk};
 ghost use Rattle.script_tree.specs.ScriptSeen.{plain_script};
 ghost use Rattle.pct_top.specs.Ready.{IsReadyTest};
-ghost use Rattle.pct_top.specs.Outcome.{printed_of};
+ghost use Rattle.pct_top.specs.CommandOutput.{printed_of};
 ghost use Rattle.pct_top.specs.commands.Find.{last_of, found_text, IsWellFormed};
 ghost use Rattle.pct_top.specs.commands.Find.{is_pass as passes_by, PrintsFound};
 ghost use Rattle.pct_top.specs.commands.KnownFinding.{IsKnownFinding};
 
+use crate::command_output::CommandOutput;
 use crate::lines::push_count;
-use crate::outcome::Outcome;
 use crate::run_plan::RunPlan;
 use crate::test::ReadyTest;
 use directive::{Directive, write_directive};
@@ -69,11 +69,11 @@ pub fn directive_of<R: Threads + Wait + Sync, G: Gate>(
     test: &ReadyTest,
     plan: RunPlan,
     gate: &G,
-) -> Result<Outcome, NoMemory>
+) -> Result<CommandOutput, NoMemory>
     requires ready { IsReadyTest test.now }
     requires whole { length plan.order ≡ test.now.deal.threads }
-    ensures { IfOk result (λ outcome. PrintsFound (plain_script test.now.script) test.now.deal
-        plan.order plan.points plan.limit (printed_of outcome)) }
+    ensures { IfOk result (λ output. PrintsFound (plain_script test.now.script) test.now.deal
+        plan.order plan.points plan.limit (printed_of output)) }
 {
     let order = plan.order.as_slice();
     let points = plan.points.as_slice();
@@ -89,5 +89,5 @@ pub fn directive_of<R: Threads + Wait + Sync, G: Gate>(
     )?;
     let done = passes(&found);
     let text = write_found(alloc, test.script.names(), order, found)?;
-    Ok(Outcome { text, done })
+    Ok(CommandOutput { text, done })
 }

@@ -4,12 +4,12 @@ ghost use Rattle.std.specs.Prelude.{◌≡◌, ◌++◌, ◌∷◌, map, OnOk, I
 ghost use Rattle.pct_ask.specs.TraceText.{name_at, line_text};
 ghost use Rattle.script_tree.specs.ScriptSeen.{plain_script};
 ghost use Rattle.pct_top.specs.Ready.{IsReadyTest};
-ghost use Rattle.pct_top.specs.Outcome.{printed_of};
+ghost use Rattle.pct_top.specs.CommandOutput.{printed_of};
 ghost use Rattle.pct_top.specs.commands.Locks.{nesting_words, lock_text, is_order as is_order_by};
 ghost use Rattle.pct_top.specs.commands.Locks.{PrintsLocks};
 
+use crate::command_output::CommandOutput;
 use crate::lines::{push_number, push_size};
-use crate::outcome::Outcome;
 use crate::playing::play;
 use crate::run_plan::RunPlan;
 use crate::test::ReadyTest;
@@ -78,15 +78,15 @@ pub fn locks_of<R: Threads + Wait + Sync, G: Gate>(
     test: &ReadyTest,
     plan: RunPlan,
     gate: &G,
-) -> Result<Outcome, NoMemory>
+) -> Result<CommandOutput, NoMemory>
     requires ready { IsReadyTest test.now }
     requires whole { length plan.order ≡ test.now.deal.threads }
-    ensures { IfOk result (λ outcome. PrintsLocks (plain_script test.now.script) test.now.deal
-        plan.order plan.points plan.limit (printed_of outcome)) }
+    ensures { IfOk result (λ output. PrintsLocks (plain_script test.now.script) test.now.deal
+        plan.order plan.points plan.limit (printed_of output)) }
 {
     let run = play(rt, alloc, test, &plan, Serve::Threads, gate)?;
     let report = lock_order(alloc, &test.deal, run.events.as_slice())?;
     let text = write_report(alloc, test.script.names(), &report)?;
     let done = is_order(&report);
-    Ok(Outcome { text, done })
+    Ok(CommandOutput { text, done })
 }

@@ -4,11 +4,11 @@ ghost use Rattle.std.specs.Prelude.{◌≡◌, ◌++◌, OnOk, IfOk, length};
 ghost use Rattle.pct_ask.specs.TraceText.{line_text};
 ghost use Rattle.script_tree.specs.ScriptSeen.{plain_script};
 ghost use Rattle.pct_top.specs.Ready.{IsReadyTest};
-ghost use Rattle.pct_top.specs.Outcome.{printed_of};
+ghost use Rattle.pct_top.specs.CommandOutput.{printed_of};
 ghost use Rattle.pct_top.specs.commands.Races.{race_words, race_text, PrintsRaces};
 
+use crate::command_output::CommandOutput;
 use crate::lines::{push_number, push_size};
-use crate::outcome::Outcome;
 use crate::playing::play;
 use crate::run_plan::RunPlan;
 use crate::test::ReadyTest;
@@ -52,15 +52,15 @@ pub fn races_of<R: Threads + Wait + Sync, G: Gate>(
     test: &ReadyTest,
     plan: RunPlan,
     gate: &G,
-) -> Result<Outcome, NoMemory>
+) -> Result<CommandOutput, NoMemory>
     requires ready { IsReadyTest test.now }
     requires whole { length plan.order ≡ test.now.deal.threads }
-    ensures { IfOk result (λ outcome. PrintsRaces (plain_script test.now.script) test.now.deal
-        plan.order plan.points plan.limit (printed_of outcome)) }
+    ensures { IfOk result (λ output. PrintsRaces (plain_script test.now.script) test.now.deal
+        plan.order plan.points plan.limit (printed_of output)) }
 {
     let run = play(rt, alloc, test, &plan, Serve::Threads, gate)?;
     let found = races(alloc, &test.deal, &Played::from(run))?;
     let text = write_races(alloc, test.script.names(), found.as_slice())?;
     let done = found.len() == 0;
-    Ok(Outcome { text, done })
+    Ok(CommandOutput { text, done })
 }

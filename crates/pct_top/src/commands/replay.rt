@@ -8,15 +8,15 @@ ghost use Rattle.pct_top.specs.Ready.{IsReadyTest};
 ghost use Rattle.pct_top.specs.Printed.{trace_bytes};
 ghost use Rattle.pct_top.specs.Files.{Misses};
 ghost use Rattle.pct_top.specs.Reads.{KeepsFile, is_unread};
-ghost use Rattle.pct_top.specs.Outcome.{printed_of, Comes};
+ghost use Rattle.pct_top.specs.CommandOutput.{printed_of, Comes};
 ghost use Rattle.pct_top.specs.commands.Replay.{written_words, found_words, reply_text};
 ghost use Rattle.pct_top.specs.commands.Replay.{is_confirmed as is_confirmed_by, PrintsReply};
 ghost use Rattle.pct_top.specs.commands.Replay.{OfReplay};
 ghost use Rattle.pct_top.specs.commands.KnownReply.{IsKnownWritten, IsKnownFound, IsKnownReply};
 
+use crate::command_output::CommandOutput;
 use crate::files::read_told;
 use crate::lines::{push_count, push_thread, push_verdict};
-use crate::outcome::Outcome;
 use crate::refusal::Refusal;
 use crate::test::ReadyTest;
 use crate::text::Text;
@@ -98,16 +98,16 @@ fn reply_to<R: Threads + Wait + Sync, G: Gate>(
     test: &ReadyTest,
     told: &TraceFile,
     gate: &G,
-) -> Result<Outcome, NoMemory>
+) -> Result<CommandOutput, NoMemory>
     requires ready { IsReadyTest test.now }
     requires trace { (bytes : List ℕ) × IsTrace bytes test.now.script.names told.now }
-    ensures { IfOk result (λ outcome.
-        PrintsReply (plain_script test.now.script) test.now.deal told.now (printed_of outcome)) }
+    ensures { IfOk result (λ output.
+        PrintsReply (plain_script test.now.script) test.now.deal told.now (printed_of output)) }
 {
     let reply = replay(rt, alloc, &test.code, &test.deal, told, gate)?;
     let text = write_reply(alloc, test.script.names(), &reply)?;
     let done = is_confirmed(&reply);
-    Ok(Outcome { text, done })
+    Ok(CommandOutput { text, done })
 }
 
 /// The replay of the trace of a file over a test.
@@ -118,7 +118,7 @@ pub fn reply_to_file<R: Threads + Wait + Sync, H: Shelf, G: Gate>(
     trace: &str,
     shelf: &mut H,
     gate: &G,
-) -> Result<Outcome, Refusal>
+) -> Result<CommandOutput, Refusal>
     requires ready { IsReadyTest test.now }
     ensures comes { Comes
         (λ files.

@@ -3,10 +3,10 @@
 ghost use Rattle.std.specs.Prelude.{◌≡◌, IfOk, length};
 ghost use Rattle.script_tree.specs.ScriptSeen.{plain_script};
 ghost use Rattle.pct_top.specs.Ready.{IsReadyTest};
-ghost use Rattle.pct_top.specs.Outcome.{printed_of};
+ghost use Rattle.pct_top.specs.CommandOutput.{printed_of};
 ghost use Rattle.pct_top.specs.commands.Run.{PrintsTrace};
 
-use crate::outcome::Outcome;
+use crate::command_output::CommandOutput;
 use crate::playing::play;
 use crate::run_plan::RunPlan;
 use crate::test::ReadyTest;
@@ -24,11 +24,11 @@ pub fn trace_of<R: Threads + Wait + Sync, G: Gate>(
     test: &ReadyTest,
     plan: RunPlan,
     gate: &G,
-) -> Result<Outcome, NoMemory>
+) -> Result<CommandOutput, NoMemory>
     requires ready { IsReadyTest test.now }
     requires whole { length plan.order ≡ test.now.deal.threads }
-    ensures { IfOk result (λ outcome. PrintsTrace (plain_script test.now.script) test.now.deal
-        plan.order plan.points plan.limit (printed_of outcome)) }
+    ensures { IfOk result (λ output. PrintsTrace (plain_script test.now.script) test.now.deal
+        plan.order plan.points plan.limit (printed_of output)) }
 {
     let run = play(rt, alloc, test, &plan, Serve::Threads, gate)?;
     let done = is_passed(&run.verdict);

@@ -5,12 +5,12 @@ ghost use Rattle.script_tree.specs.ScriptSeen.{plain_script};
 ghost use Rattle.pct_ask.specs.Limits.{IsDepth, IsStepCount};
 ghost use Rattle.report_text.specs.Report.{IsWritable};
 ghost use Rattle.pct_top.specs.Ready.{IsReadyTest};
-ghost use Rattle.pct_top.specs.Outcome.{printed_of};
+ghost use Rattle.pct_top.specs.CommandOutput.{printed_of};
 ghost use Rattle.pct_top.specs.commands.Campaign.{all_pass as all_pass_by, campaign_text};
 ghost use Rattle.pct_top.specs.commands.Campaign.{frame_of as frame_by};
 ghost use Rattle.pct_top.specs.commands.Campaign.{OfCampaign};
 
-use crate::outcome::Outcome;
+use crate::command_output::CommandOutput;
 use crate::run_plan::steps_of;
 use crate::test::ReadyTest;
 use crate::traces::is_passed;
@@ -93,11 +93,11 @@ impl CampaignJob {
         alloc: Global,
         test: &ReadyTest,
         gate: &G,
-    ) -> Result<Outcome, NoMemory>
+    ) -> Result<CommandOutput, NoMemory>
         requires ready { IsReadyTest test.now }
-        ensures { IfOk result (λ outcome. OfCampaign self.now.first self.now.count self.now.depth
+        ensures { IfOk result (λ output. OfCampaign self.now.first self.now.count self.now.depth
             self.now.steps self.now.limit self.now.json (plain_script test.now.script)
-            test.now.deal (printed_of outcome)) }
+            test.now.deal (printed_of output)) }
     {
         let steps = steps_of(rt, alloc, test, self.steps, self.limit, self.serve, gate)?;
         let rows = campaign_by(
@@ -108,6 +108,6 @@ impl CampaignJob {
         let frame = frame_of(test, self.depth, steps, self.limit);
         let text = write_report(alloc, self.json, &test.script, &frame, &rows, &groups)?;
         let done = all_pass(rows.as_slice());
-        Ok(Outcome { text, done })
+        Ok(CommandOutput { text, done })
     }
 }

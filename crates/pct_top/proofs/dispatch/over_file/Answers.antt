@@ -3,7 +3,7 @@ use Rattle.script_tree.specs.ScriptSeen.{plain_script}
 use Rattle.pct_outside.specs.Told.{ShelfTold}
 use Rattle.pct_top.specs.Plan.{asked}
 use Rattle.pct_top.specs.Output.{script_file, script_text, OfCommand}
-use Rattle.pct_top.specs.Outcome.{Comes}
+use Rattle.pct_top.specs.CommandOutput.{Comes}
 use Rattle.pct_top.specs.Files.{Misses}
 use Rattle.pct_top.specs.Reads.{is_read, is_unread}
 use Rattle.pct_top.specs.Call.{MissesSecond, ReadFailed}
@@ -48,8 +48,8 @@ returns-in-Ok-clause-comes g c =
     } in
     let middle = g.H.Shelf.failed c.read_test.new.shelf in
     let after : ShelfTold = record {
-      files = g.H.Shelf.files c.outcome.new.shelf;
-      failed = g.H.Shelf.failed c.outcome.new.shelf;
+      files = g.H.Shelf.files c.output.new.shelf;
+      failed = g.H.Shelf.failed c.output.new.shelf;
     } in
     let missed : Type 0 = MissesSecond settings script middle after.failed in
     let spells = file_gives settings name file text before.files before.failed middle (Ok test)
@@ -58,9 +58,9 @@ returns-in-Ok-clause-comes g c =
     (ReadFailed (Ok settings) before after) test spells c.in-Ok.ensures.ready missed
     (second_missed settings before after middle script spells
     (file_kept settings name file false before.failed middle c.in-Ok.ensures.keeps))
-    c.outcome.result
+    c.output.result
     (subst (λ told. Comes (λ files. OfCommand settings files script test.deal) told missed
-    c.outcome.result) c.in-Ok.ensures.files (c.outcome.ensures.comes name))
+    c.output.result) c.in-Ok.ensures.files (c.output.ensures.comes name))
 
 pub returns-in-Err-clause-shelf : goal.returns-in-Err-clause-shelf
 returns-in-Err-clause-shelf g c =
@@ -94,12 +94,12 @@ returns-in-Ok-clause-shelf g c =
     } in
     let middle = g.H.Shelf.failed c.read_test.new.shelf in
     let after : ShelfTold = record {
-      files = g.H.Shelf.files c.outcome.new.shelf;
-      failed = g.H.Shelf.failed c.outcome.new.shelf;
+      files = g.H.Shelf.files c.output.new.shelf;
+      failed = g.H.Shelf.failed c.output.new.shelf;
     } in
-    leaves_both settings (is_unread c.outcome.result) before after
-    (c.outcome.ensures.files ∙ c.in-Ok.ensures.files) middle script
+    leaves_both settings (is_unread c.output.result) before after
+    (c.output.ensures.files ∙ c.in-Ok.ensures.files) middle script
     (file_gives settings name file text before.files before.failed middle (Ok test)
     c.in-Ok.ensures.test)
     (file_kept settings name file false before.failed middle c.in-Ok.ensures.keeps)
-    (c.outcome.ensures.keeps name)
+    (c.output.ensures.keeps name)

@@ -1,7 +1,7 @@
 use Rattle.std.proofs.Common.{Bool, Ok, Err, Some, sym, subst}
 use Rattle.pct_outside.specs.Told.{ShelfTold, StreamTold}
 use Rattle.pct_top.specs.Output.{OfTaken}
-use Rattle.pct_top.specs.Outcome.{printed_of}
+use Rattle.pct_top.specs.CommandOutput.{printed_of}
 use Rattle.pct_top.specs.Call.{ReadFailed, LeavesShelf}
 use Rattle.pct_top.proofs.Comes.{told_comes}
 use Rattle.pct_top.proofs.Shelves.{put_is_read}
@@ -15,8 +15,8 @@ returns-in-Err-clause-answers g c =
       failed = g.H.Shelf.failed c.args.shelf.now;
     } in
     let shelf' : ShelfTold = record {
-      files = g.H.Shelf.files c.outcome_of.new.shelf;
-      failed = g.H.Shelf.failed c.outcome_of.new.shelf;
+      files = g.H.Shelf.files c.output_of.new.shelf;
+      failed = g.H.Shelf.failed c.output_of.new.shelf;
     } in
     let out : StreamTold = record {
       written = g.O.Sink.written c.args.out.now;
@@ -33,8 +33,8 @@ returns-in-Ok-clause-answers g c =
       failed = g.H.Shelf.failed c.args.shelf.now;
     } in
     let shelf' : ShelfTold = record {
-      files = g.H.Shelf.files c.outcome_of.new.shelf;
-      failed = g.H.Shelf.failed c.outcome_of.new.shelf;
+      files = g.H.Shelf.files c.output_of.new.shelf;
+      failed = g.H.Shelf.failed c.output_of.new.shelf;
     } in
     let out : StreamTold = record {
       written = g.O.Sink.written c.args.out.now;
@@ -42,12 +42,12 @@ returns-in-Ok-clause-answers g c =
       shorts = g.O.Sink.shorts c.args.out.now;
     } in
     let out' : StreamTold = record {
-      written = g.O.Sink.written c.put_outcome.new.out;
-      faults = g.O.Sink.faults c.put_outcome.new.out;
-      shorts = g.O.Sink.shorts c.put_outcome.new.out;
+      written = g.O.Sink.written c.put_output.new.out;
+      faults = g.O.Sink.faults c.put_output.new.out;
+      shorts = g.O.Sink.shorts c.put_output.new.out;
     } in
-    answers_put (Ok c.args.settings) shelf shelf' out out' c.in-Ok.outcome c.put_outcome.result
-    c.in-Ok.ensures.comes c.put_outcome.ensures
+    answers_put (Ok c.args.settings) shelf shelf' out out' c.in-Ok.output c.put_output.result
+    c.in-Ok.ensures.comes c.put_output.ensures
 
 pub returns-in-Err-clause-unread : goal.returns-in-Err-clause-unread
 returns-in-Err-clause-unread g c = λ none files.
@@ -56,8 +56,8 @@ returns-in-Err-clause-unread g c = λ none files.
       failed = g.H.Shelf.failed c.args.shelf.now;
     } in
     let shelf' : ShelfTold = record {
-      files = g.H.Shelf.files c.outcome_of.new.shelf;
-      failed = g.H.Shelf.failed c.outcome_of.new.shelf;
+      files = g.H.Shelf.files c.output_of.new.shelf;
+      failed = g.H.Shelf.failed c.output_of.new.shelf;
     } in
     let out : StreamTold = record {
       written = g.O.Sink.written c.args.out.now;
@@ -76,8 +76,8 @@ returns-in-Ok-clause-unread g c = λ none files.
       failed = g.H.Shelf.failed c.args.shelf.now;
     } in
     let shelf' : ShelfTold = record {
-      files = g.H.Shelf.files c.outcome_of.new.shelf;
-      failed = g.H.Shelf.failed c.outcome_of.new.shelf;
+      files = g.H.Shelf.files c.output_of.new.shelf;
+      failed = g.H.Shelf.failed c.output_of.new.shelf;
     } in
     let out : StreamTold = record {
       written = g.O.Sink.written c.args.out.now;
@@ -85,14 +85,14 @@ returns-in-Ok-clause-unread g c = λ none files.
       shorts = g.O.Sink.shorts c.args.out.now;
     } in
     let out' : StreamTold = record {
-      written = g.O.Sink.written c.put_outcome.new.out;
-      faults = g.O.Sink.faults c.put_outcome.new.out;
-      shorts = g.O.Sink.shorts c.put_outcome.new.out;
+      written = g.O.Sink.written c.put_output.new.out;
+      faults = g.O.Sink.faults c.put_output.new.out;
+      shorts = g.O.Sink.shorts c.put_output.new.out;
     } in
-    answers_put (Ok c.args.settings) shelf shelf' out out' c.in-Ok.outcome c.put_outcome.result
+    answers_put (Ok c.args.settings) shelf shelf' out out' c.in-Ok.output c.put_output.result
     (told_comes (OfTaken (Ok c.args.settings)) files
     (ReadFailed (Ok c.args.settings) shelf shelf')
-    (Ok c.in-Ok.outcome) (c.in-Ok.ensures.unread none files)) c.put_outcome.ensures
+    (Ok c.in-Ok.output) (c.in-Ok.ensures.unread none files)) c.put_output.ensures
 
 pub returns-in-Ok-clause-shelf : goal.returns-in-Ok-clause-shelf
 returns-in-Ok-clause-shelf g c =
@@ -101,8 +101,8 @@ returns-in-Ok-clause-shelf g c =
       failed = g.H.Shelf.failed c.args.shelf.now;
     } in
     let shelf' : ShelfTold = record {
-      files = g.H.Shelf.files c.outcome_of.new.shelf;
-      failed = g.H.Shelf.failed c.outcome_of.new.shelf;
+      files = g.H.Shelf.files c.output_of.new.shelf;
+      failed = g.H.Shelf.failed c.output_of.new.shelf;
     } in
     let out : StreamTold = record {
       written = g.O.Sink.written c.args.out.now;
@@ -110,11 +110,11 @@ returns-in-Ok-clause-shelf g c =
       shorts = g.O.Sink.shorts c.args.out.now;
     } in
     let out' : StreamTold = record {
-      written = g.O.Sink.written c.put_outcome.new.out;
-      faults = g.O.Sink.faults c.put_outcome.new.out;
-      shorts = g.O.Sink.shorts c.put_outcome.new.out;
+      written = g.O.Sink.written c.put_output.new.out;
+      faults = g.O.Sink.faults c.put_output.new.out;
+      shorts = g.O.Sink.shorts c.put_output.new.out;
     } in
     subst (λ (unread : Bool). LeavesShelf (Ok c.args.settings) unread shelf shelf')
-    (sym (put_is_read (printed_of c.in-Ok.outcome) out out' c.put_outcome.result
-    c.put_outcome.ensures))
+    (sym (put_is_read (printed_of c.in-Ok.output) out out' c.put_output.result
+    c.put_output.ensures))
     c.in-Ok.ensures.shelf

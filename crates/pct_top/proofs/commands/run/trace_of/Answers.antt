@@ -4,14 +4,14 @@ use Rattle.pct_ask.specs.declared.Deal.{Deal}
 use Rattle.script_tree.specs.ScriptText.{ScriptText}
 use Rattle.script_tree.specs.ScriptSeen.{plain_script}
 use Rattle.worker_run.specs.Run.{Run}
-use Rattle.pct_top.specs.declared.outcome.Outcome.{Outcome}
+use Rattle.pct_top.specs.declared.command_output.CommandOutput.{CommandOutput}
 use Rattle.pct_top.specs.Runs.{run_of, is_passed, TellsRun}
-use Rattle.pct_top.specs.Outcome.{printed_of}
+use Rattle.pct_top.specs.CommandOutput.{printed_of}
 use Rattle.pct_top.specs.commands.Run.{PrintsTrace}
 use Rattle.pct_top.proofs.commands.run.trace_of.Goals as goal
 
 is_told : {E : Type 0} (script : ScriptText) (deal : Deal) (order points : List ℕ) (limit : ℕ)
-    (ended : Run) (r : Result Outcome E) → run_of script deal order points limit ≡ Some ended
+    (ended : Run) (r : Result CommandOutput E) → run_of script deal order points limit ≡ Some ended
     → IfOk r (λ o. TellsRun script order points limit ended (is_passed ended.1) (printed_of o))
     → IfOk r (λ o. PrintsTrace script deal order points limit (printed_of o))
 is_told script deal order points limit ended (Ok o) run h = (ended, run, h)

@@ -2,7 +2,7 @@ use Rattle.std.proofs.Common.{Some, Err, subst}
 use Rattle.pct_ask.specs.NameLists.{NameLists}
 use Rattle.script_tree.specs.ScriptSeen.{plain_script}
 use Rattle.pct_top.specs.Files.{Misses, GivesDirective, HasDirective}
-use Rattle.pct_top.specs.Outcome.{printed_of}
+use Rattle.pct_top.specs.CommandOutput.{printed_of}
 use Rattle.pct_top.specs.commands.Certify.{PrintsCertificate}
 use Rattle.pct_top.proofs.Comes.{directive_refused, directive_shown}
 use Rattle.pct_top.proofs.commands.certify.CertifyJob.certify_file.Goals as goal

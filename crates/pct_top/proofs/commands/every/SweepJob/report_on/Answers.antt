@@ -1,6 +1,6 @@
 -- What the sweep answers is told.
 use Rattle.std.specs.Prelude.{All, ◌==◌}
-use Rattle.std.proofs.Common.{◌≡◌, ◌≤◌, ◌<◌, ◌-◌, ℕ, List, sym, ap, subst, ◌∙◌, false}
+use Rattle.std.proofs.Common.{◌≡◌, ◌<◌, ◌-◌, ℕ, List, sym, ap, subst, ◌∙◌, false}
 use Rattle.pct_ask.specs.declared.Deal.{Deal}
 use Rattle.script_tree.specs.ScriptText.{ScriptText}
 use Rattle.script_tree.specs.ScriptSeen.{plain_script}
@@ -8,14 +8,14 @@ use Rattle.script_body.specs.Bodies.{bodies_of}
 use Rattle.failure_rank.specs.declared.group.Group.{Group}
 use Rattle.report_text.specs.Report.{IsTellable}
 use Rattle.report_text.specs.declared.frame.Frame.{Frame}
-use Rattle.sweep.specs.Choices.{most_choices}
+use Rattle.sweep.specs.Choices.{choice_count}
 use Rattle.sweep.specs.Rows.{Setup}
 use Rattle.sweep.specs.Swept.{Sweeps}
 use Rattle.sweep.specs.declared.sweeping.Answer.{Answer}
 use Rattle.sweep.specs.declared.sweeping.Answer.TheVariants.{Whole, TooMany}
 use Rattle.pct_top.specs.Printed.{printed_text}
 use Rattle.pct_top.specs.commands.Campaign.{frame_of}
-use Rattle.pct_top.specs.commands.Sweep.{swept_setup, count_in, AreTold, sweep_report}
+use Rattle.pct_top.specs.commands.Sweep.{swept_setup, AreTold, sweep_report}
 use Rattle.pct_top.specs.commands.Sweep.{too_many_text}
 use Rattle.pct_top.proofs.KnownSwept.{first-choices, told-known}
 use Rattle.pct_top.proofs.commands.every.SweepJob.report_on.Goals as goal
@@ -60,8 +60,7 @@ told_groups-requires-clause-few g c =
     job.limit c.points-points.result frame c.in_ok-swept.field-0 (Whole c.in-Whole.swept) made
     c.points-points.ensures.number c.in-Whole.is
     (c.in_ok-swept.ensures (plain_script test.script) c.requires.ready) in
-    let F : Frame → Type 0 = λ (f : Frame). count_in f ≤ most_choices in
-    subst F (sym made) sweeps.0
+    sweeps.0
 
 pub told_groups-requires-clause-first : goal.told_groups-requires-clause-first
 told_groups-requires-clause-first g c =
@@ -74,12 +73,10 @@ told_groups-requires-clause-first g c =
     c.frame_of-frame.result c.in_ok-swept.field-0 (Whole c.in-Whole.swept) made
     c.points-points.ensures.number c.in-Whole.is
     (c.in_ok-swept.ensures script c.requires.ready) in
-    let Firsts : Frame → List Group → Type 0 =
-    λ frame. All (λ (group : Group). group.first < count_in frame) in
-    subst (λ (frame : Frame). Firsts frame c.as_slice.result.now) (sym made)
-    (subst (Firsts (frame_of test.deal job.depth steps job.limit)) (sym c.as_slice.ensures)
+    let many = choice_count test.deal.threads steps (job.depth - 1) in
+    subst (All (λ (group : Group). group.first < many)) (sym c.as_slice.ensures)
     (first-choices (swept_setup script test.deal job.depth steps job.limit) c.in-Whole.swept
-    sweeps.1))
+    sweeps.1)
 
 pub write_report-requires : goal.write_report-requires
 write_report-requires g c =
@@ -93,12 +90,11 @@ write_report-requires g c =
     c.frame_of-frame.result c.in_ok-swept.field-0 (Whole c.in-Whole.swept) made
     c.points-points.ensures.number c.in-Whole.is (c.in_ok-swept.ensures script ready) in
     let told = c.in_ok-told-in-Whole.told.items in
-    let Told : Frame → List Group → Type 0 = λ frame groups. AreTold frame groups told in
+    let Told : List Group → Type 0 =
+    λ groups. AreTold (frame_of test.deal job.depth steps job.limit) groups told in
     subst (All (IsTellable script.names)) (sym c.as_slice-told.ensures.value)
     (told-known script test.deal ready.sound ready.is_deal job.depth steps job.limit
-    c.in-Whole.swept told sweeps.1
-    (subst (λ (frame : Frame). Told frame c.in-Whole.swept.groups) made
-    (subst (Told c.frame_of-frame.result) c.as_slice.ensures c.in_ok-told-in-Whole.ensures)))
+    c.in-Whole.swept told sweeps.1 (subst Told c.as_slice.ensures c.in_ok-told-in-Whole.ensures))
 
 pub returns-in_ok-text-in-Whole : goal.returns-in_ok-text-in-Whole
 returns-in_ok-text-in-Whole g c =
@@ -110,7 +106,8 @@ returns-in_ok-text-in-Whole g c =
     let frame = c.frame_of-frame.result in
     let made = c.frame_of-frame.ensures.made in
     let told = c.in_ok-told-in-Whole.told.items in
-    let Told : Frame → List Group → Type 0 = λ frame groups. AreTold frame groups told in
+    let Told : List Group → Type 0 =
+    λ groups. AreTold (frame_of test.deal job.depth steps job.limit) groups told in
     let text : Frame → List ℕ = λ frame. sweep_report job.json script frame whole told in
     let written = c.in_ok-text-in-Whole.ensures
     ∙ ap (sweep_report job.json script frame whole) c.as_slice-told.ensures.value
@@ -125,8 +122,7 @@ returns-in_ok-text-in-Whole g c =
             (c.in_ok-swept.ensures script c.requires.ready),
         (
           told,
-          subst (λ (frame : Frame). Told frame whole.groups) made
-              (subst (Told frame) c.as_slice.ensures c.in_ok-told-in-Whole.ensures),
+          subst Told c.as_slice.ensures c.in_ok-told-in-Whole.ensures,
           λ i. printed_text (written i) (many i == 0),
         ),
       ),

@@ -5,7 +5,7 @@ use Rattle.directive.specs.declared.directive.Directive.{Directive}
 use Rattle.pct_top.specs.Ordered.{NamesAll, OrderFits}
 use Rattle.pct_top.specs.Printed.{Files, Printed, directive_bytes, OfDirective}
 use Rattle.pct_top.specs.Files.{Misses, GivesDirective, HasDirective}
-use Rattle.pct_top.specs.Outcome.{printed_of}
+use Rattle.pct_top.specs.CommandOutput.{printed_of}
 use Rattle.pct_top.specs.commands.Expose.{PrintsExposed}
 use Rattle.pct_top.proofs.Comes.{directive_refused, directive_shown, ordered, ordered_shown}
 use Rattle.pct_top.proofs.commands.expose.ExposeJob.expose_file.Goals as goal

@@ -9,8 +9,8 @@ use Rattle.script_body.specs.Bodies.{bodies_of}
 use Rattle.directive.specs.declared.directive.Directive.{Directive}
 use Rattle.directive_run.specs.Exposing.{Exposes}
 use Rattle.directive_run.specs.declared.answers.Exposed.{Exposed}
-use Rattle.pct_top.specs.declared.outcome.Outcome.{Outcome}
-use Rattle.pct_top.specs.Outcome.{printed_of}
+use Rattle.pct_top.specs.declared.command_output.CommandOutput.{CommandOutput}
+use Rattle.pct_top.specs.CommandOutput.{printed_of}
 use Rattle.pct_top.specs.commands.Expose.{TellsExposed, PrintsExposed}
 use Rattle.pct_top.proofs.commands.expose.ExposeJob.exposed_by.Goals as goal
 
@@ -31,7 +31,7 @@ told_exposed-requires-clause-exposed g c =
     (subst L c.steps.ensures.number (c.in_ok-exposed.ensures script c.requires.ready))
 
 told : {E : Type 0} (script : ScriptText) (deal : Deal) (order : List ℕ) (steps limit : ℕ)
-    (directive : Directive) (exposed : Exposed) (r : Result Outcome E)
+    (directive : Directive) (exposed : Exposed) (r : Result CommandOutput E)
     → Exposes deal (bodies_of script) order directive.events steps limit exposed
     → IfOk r (λ o. TellsExposed script deal order limit directive.verdict exposed (printed_of o))
     → IfOk r (λ o. PrintsExposed script deal order steps limit directive (printed_of o))

@@ -3,14 +3,14 @@ use Rattle.script_tree.specs.ScriptSeen.{plain_script}
 use Rattle.pct_top.specs.Printed.{Files, Printed, trace_bytes, directive_bytes}
 use Rattle.pct_top.specs.Ordered.{OrderFits}
 use Rattle.pct_top.specs.Files.{Misses}
-use Rattle.pct_top.specs.Outcome.{Comes}
+use Rattle.pct_top.specs.CommandOutput.{Comes}
 use Rattle.pct_top.specs.Reports.{OfOrdered}
 use Rattle.pct_top.specs.commands.Replay.{OfReplay}
 use Rattle.pct_top.specs.commands.Expose.{OfExpose}
 use Rattle.pct_top.specs.commands.Certify.{OfCertify}
 use Rattle.pct_top.proofs.Comes.{comes_as, gives_comes}
 use Rattle.pct_top.proofs.Shelves.{given_is_read}
-use Rattle.pct_top.proofs.job.Job.outcome.Goals as goal
+use Rattle.pct_top.proofs.job.Job.output.Goals as goal
 
 pub returns-in-Ordered-clause-comes : goal.returns-in-Ordered-clause-comes
 returns-in-Ordered-clause-comes g c =

@@ -3,16 +3,16 @@ use Rattle.std.specs.Prelude.{◌≡◌, Option, Some, Result, Ok, Err}
 use Rattle.pct_top.specs.declared.refusal.Refusal.{Refusal}
 use Rattle.pct_top.specs.declared.refusal.Refusal.TheVariants.{Usage, Script, Trace, Directive}
 use Rattle.pct_top.specs.declared.refusal.Refusal.TheVariants.{Read, Write, Memory}
-use Rattle.pct_top.specs.declared.outcome.Outcome.{Outcome}
+use Rattle.pct_top.specs.declared.command_output.CommandOutput.{CommandOutput}
 use Rattle.pct_top.specs.Printed.{Files, Printed, printed_refusal, printed_text}
 
--- what is printed for an outcome
-abbrev pub printed_of : Outcome → Printed
-printed_of outcome = printed_text outcome.text.items outcome.done
+-- what is printed for a command's output
+abbrev pub printed_of : CommandOutput → Printed
+printed_of output = printed_text output.text.items output.done
 
--- The outcome may be printed, and so may a refusal. Nothing else is at fault but want of memory.
-abbrev pub GivesPrinted : (Printed → Type 0) → Result Outcome Refusal → Type 0
-GivesPrinted of (Ok outcome) = of (printed_of outcome)
+-- The output may be printed, and so may a refusal. Nothing else is at fault but want of memory.
+abbrev pub GivesPrinted : (Printed → Type 0) → Result CommandOutput Refusal → Type 0
+GivesPrinted of (Ok output) = of (printed_of output)
 GivesPrinted of (Err (Usage word)) = of (printed_refusal (Usage word))
 GivesPrinted of (Err (Script line kind)) = of (printed_refusal (Script line kind))
 GivesPrinted of (Err (Trace line kind)) = of (printed_refusal (Trace line kind))
@@ -27,8 +27,8 @@ ShowsFiles of told printed = (files : Files) → told ≡ Some files → of file
 
 -- The same where files are read, and a read that fails has this for a cause.
 abbrev pub Comes :
-    (Files → Printed → Type 0) → Option Files → Type 0 → Result Outcome Refusal → Type 0
-Comes of told missed (Ok outcome) = ShowsFiles of told (printed_of outcome)
+    (Files → Printed → Type 0) → Option Files → Type 0 → Result CommandOutput Refusal → Type 0
+Comes of told missed (Ok output) = ShowsFiles of told (printed_of output)
 Comes of told missed (Err (Usage word)) = ShowsFiles of told (printed_refusal (Usage word))
 Comes of told missed (Err (Script line kind)) =
     ShowsFiles of told (printed_refusal (Script line kind))

@@ -13,25 +13,25 @@ use Rattle.pct_top.specs.Call.{LeavesShelf}
 use Rattle.pct_top.proofs.Comes.{gives_comes, comes_of_same}
 use Rattle.pct_top.proofs.Plans.{asked_file}
 use Rattle.pct_top.proofs.Shelves.{leaves_none, given_is_read}
-use Rattle.pct_top.proofs.dispatch.outcome_of.Goals as goal
+use Rattle.pct_top.proofs.dispatch.output_of.Goals as goal
 
 pub returns-in-Big-clause-comes : goal.returns-in-Big-clause-comes
 returns-in-Big-clause-comes g c =
     let plan = c.in-Big in
     rw (c.plan_of.ensures ∙ ap asked_by plan.is)
-    (gives_comes (OfTaken (Ok (Big plan.pieces plan.serve))) _ _ c.big_outcome.result
-    (λ files. c.big_outcome.ensures))
+    (gives_comes (OfTaken (Ok (Big plan.pieces plan.serve))) _ _ c.big_output.result
+    (λ files. c.big_output.ensures))
 
 pub returns-in-Big-clause-unread : goal.returns-in-Big-clause-unread
 returns-in-Big-clause-unread g c =
-    rw (c.plan_of.ensures ∙ ap asked_by c.in-Big.is) (λ none files. c.big_outcome.ensures)
+    rw (c.plan_of.ensures ∙ ap asked_by c.in-Big.is) (λ none files. c.big_output.ensures)
 
 pub returns-in-Big-clause-shelf : goal.returns-in-Big-clause-shelf
 returns-in-Big-clause-shelf g c =
     let pieces = c.in-Big.pieces in
     leaves_none (Ok c.args.settings) _ _ _ refl
-    (given_is_read (OfScript (layout (large_script pieces)) (OfBig pieces)) c.big_outcome.result
-    c.big_outcome.ensures) refl
+    (given_is_read (OfScript (layout (large_script pieces)) (OfBig pieces)) c.big_output.result
+    c.big_output.ensures) refl
 
 is_some : {A : Type 0} {a : A} → Some a ≡ None → ⊥
 is_some e = cc

@@ -3,7 +3,7 @@ use Rattle.script_tree.specs.Layout.{layout}
 use Rattle.large_script.specs.Large.{large_script}
 use Rattle.pct_top.specs.commands.Big.{OfBig}
 use Rattle.pct_top.proofs.Comes.{given_untested, given_tested}
-use Rattle.pct_top.proofs.commands.big.big_outcome.Goals as goal
+use Rattle.pct_top.proofs.commands.big.big_output.Goals as goal
 
 pub returns-in-Err : goal.returns-in-Err
 returns-in-Err g c =
