@@ -227,7 +227,7 @@ def interrupt(*_: object) -> None:
 
 
 def main() -> int:
-    """The status of a call by the words behind the program's name: 0 to 8 as docs/hunt.md has them, 130 where it was
+    """The status of a call by the words behind the program's name: 0 to 8 as the help has them, 130 where it was
     interrupted."""
     words = sys.argv[1:]
     sys.setrecursionlimit(10000)
