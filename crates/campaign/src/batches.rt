@@ -10,7 +10,7 @@ use crate::common::Campaign;
 use pct_ask::{Event, Limit, Outcome, Row};
 use policy_pick::{Pct, Priorities};
 use priority_draw::Words;
-use script_run::{Batch, ReadyScript, pct_by};
+use script_run::{Batch, ReadyScript};
 use std::alloc::{AllocError as NoMemory, Global};
 use worker_run::{step_count, verdict_of};
 
@@ -52,7 +52,7 @@ impl Batch for Campaign<'_> {
         let order = words.draw_order(alloc, self.script.deal.threads)?;
         let points = words.draw_points(alloc, self.steps.steps(), self.depth.points())?;
         let (order, points) = (order.as_slice(), points.as_slice());
-        pct_by(alloc, &Priorities { order, points }, spare)
+        Pct::of_priorities(alloc, &Priorities { order, points }, spare)
     }
 
     fn take(

@@ -13,7 +13,7 @@ use crate::judging::{Tested, test_run};
 use choices::low_order_at;
 use pct_ask::{Event, Limit, Outcome};
 use policy_pick::{DirectedPolicy, DirectedPriorities};
-use script_run::{Batch, ReadyScript, directed_by};
+use script_run::{Batch, ReadyScript};
 use std::alloc::{AllocError as NoMemory, Global};
 
 impl Batch for Claim<'_, '_> {
@@ -55,7 +55,7 @@ impl Batch for Claim<'_, '_> {
     {
         let order = low_order_at(alloc, self.script.deal.threads, self.directive.low, place)?;
         let (order, moments) = (order.as_slice(), self.directive.events.as_slice());
-        directed_by(alloc, &DirectedPriorities { order, moments }, spare)
+        DirectedPolicy::of_priorities(alloc, &DirectedPriorities { order, moments }, spare)
     }
 
     fn take(

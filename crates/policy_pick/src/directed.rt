@@ -56,45 +56,46 @@ impl DirectedPolicy {
                     order,
                     moments: events,
                 };
-                Ok(DirectedPolicy::of_priorities(alloc, &priorities)?)
+                Ok(DirectedPolicy::of_priorities(alloc, &priorities, None)?)
             }
         }
     }
 
-    /// The policy of priorities.
+    /// The policy of priorities, in the memory of another policy, where there is one, which nobody
+    /// needs any more. Memory is taken only where that is too small.
     pub fn of_priorities(
         alloc: Global,
         priorities: &DirectedPriorities<'_>,
+        spare: Option<DirectedPolicy>,
     ) -> Result<DirectedPolicy, NoMemory>
         requires few_threads { length priorities.now.order.now ≤ MAX_THREADS }
         ensures plan { IfOk result (λ p.
             events_plan p ≡ ByEvents priorities.now.order.now priorities.now.moments.now) }
         ensures stands { IfOk result (λ p. EventsStand p []) }
     {
-        let ranks = Ranks::of_order(alloc, priorities.order, priorities.moments.len() as u32)?;
-        let own = vec![in alloc; 0; priorities.order.len()]?;
-        let events = Vec::from_slice(alloc, priorities.moments)?;
+        let spare = match spare {
+            Some(policy) => policy,
+            None => DirectedPolicy::of_nobody(alloc)?,
+        };
+        let ranks = spare
+            .ranks
+            .again(priorities.order, priorities.moments.len() as u32)?;
+        let mut own = spare.own;
+        own.clear();
+        own.resize(priorities.order.len(), 0)?;
+        let mut events = spare.events;
+        events.clear();
+        events.extend_from_slice(priorities.moments)?;
         Ok(DirectedPolicy { events, ranks, own })
     }
 
-    /// The same in the memory of this policy, which nobody needs any more. Memory is taken only
-    /// where that is too small.
-    pub fn again(mut self, priorities: &DirectedPriorities<'_>) -> Result<DirectedPolicy, NoMemory>
-        requires few_threads { length priorities.now.order.now ≤ MAX_THREADS }
-        ensures plan { IfOk result (λ p.
-            events_plan p ≡ ByEvents priorities.now.order.now priorities.now.moments.now) }
-        ensures stands { IfOk result (λ p. EventsStand p []) }
-    {
-        let count = priorities.moments.len() as u32;
-        let ranks = self.ranks.again(priorities.order, count)?;
-        self.own.clear();
-        self.own.resize(priorities.order.len(), 0)?;
-        self.events.clear();
-        self.events.extend_from_slice(priorities.moments)?;
+    /// A policy of no threads.
+    fn of_nobody(alloc: Global) -> Result<DirectedPolicy, NoMemory> {
+        let ranks = Ranks::of_order(alloc, &[], 0)?;
         Ok(DirectedPolicy {
-            events: self.events,
+            events: Vec::new(alloc),
             ranks,
-            own: self.own,
+            own: Vec::new(alloc),
         })
     }
 }

@@ -9,9 +9,8 @@
 //! - A step counts as one: `Policy::took`: `plan`, `stands`. Made of plain lists: `Pct::new`:
 //!   `plan`, `stands`, `not_an_order`; `DirectedPolicy::new`: `plan`, `stands`, `not_an_order`;
 //!   `Listed::new`: `plan`, `stands`. Made of an order that is one and of few points
-//!   (`Priorities`) or moments (`DirectedPriorities`): `Pct::of_priorities`: `plan`, `stands`;
-//!   `DirectedPolicy::of_priorities`: `plan`, `stands`; the same in the memory of a policy that
-//!   nobody needs any more: `Pct::again`: `plan`, `stands`; `DirectedPolicy::again`: `plan`,
+//!   (`Priorities`) or moments (`DirectedPriorities`), in the memory of another policy, where there
+//!   is one: `Pct::of_priorities`: `plan`, `stands`; `DirectedPolicy::of_priorities`: `plan`,
 //!   `stands`.
 //! - Where it answers that a thread outranks others, each of them but itself has a lower rank:
 //!   `Policy::outranks`, its clause (`Outranks`).

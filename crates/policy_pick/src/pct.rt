@@ -52,19 +52,32 @@ impl Pct {
     {
         match first_wrong(order) {
             Some(at) => Err(RankError::NotAnOrder { at }),
-            None => Ok(Pct::of_priorities(alloc, &Priorities { order, points })?),
+            None => Ok(Pct::of_priorities(alloc, &Priorities { order, points }, None)?),
         }
     }
 
-    /// The policy of priorities.
-    pub fn of_priorities(alloc: Global, priorities: &Priorities<'_>) -> Result<Pct, NoMemory>
+    /// The policy of priorities, in the memory of another policy, where there is one, which nobody
+    /// needs any more. Memory is taken only where that is too small.
+    pub fn of_priorities(
+        alloc: Global,
+        priorities: &Priorities<'_>,
+        spare: Option<Pct>,
+    ) -> Result<Pct, NoMemory>
         requires few_threads { length priorities.now.order.now ≤ MAX_THREADS }
         ensures plan { IfOk result (λ p.
             points_plan p ≡ ByPoints priorities.now.order.now priorities.now.points.now) }
         ensures stands { IfOk result (λ p. PointsStand p []) }
     {
-        let ranks = Ranks::of_order(alloc, priorities.order, priorities.points.len() as u32)?;
-        let points = Vec::from_slice(alloc, priorities.points)?;
+        let spare = match spare {
+            Some(policy) => policy,
+            None => Pct::of_nobody(alloc)?,
+        };
+        let ranks = spare
+            .ranks
+            .again(priorities.order, priorities.points.len() as u32)?;
+        let mut points = spare.points;
+        points.clear();
+        points.extend_from_slice(priorities.points)?;
         Ok(Pct {
             points,
             ranks,
@@ -72,20 +85,11 @@ impl Pct {
         })
     }
 
-    /// The same in the memory of this policy, which nobody needs any more. Memory is taken only
-    /// where that is too small.
-    pub fn again(mut self, priorities: &Priorities<'_>) -> Result<Pct, NoMemory>
-        requires few_threads { length priorities.now.order.now ≤ MAX_THREADS }
-        ensures plan { IfOk result (λ p.
-            points_plan p ≡ ByPoints priorities.now.order.now priorities.now.points.now) }
-        ensures stands { IfOk result (λ p. PointsStand p []) }
-    {
-        let count = priorities.points.len() as u32;
-        let ranks = self.ranks.again(priorities.order, count)?;
-        self.points.clear();
-        self.points.extend_from_slice(priorities.points)?;
+    /// A policy of no threads.
+    fn of_nobody(alloc: Global) -> Result<Pct, NoMemory> {
+        let ranks = Ranks::of_order(alloc, &[], 0)?;
         Ok(Pct {
-            points: self.points,
+            points: Vec::new(alloc),
             ranks,
             taken: 0,
         })

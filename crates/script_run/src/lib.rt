@@ -12,19 +12,15 @@
 //! - The runs of a batch are taken in their order, each once, as the run that its place has, up to
 //!   the first that comes to an answer, whoever serves: `run_batch`, its clause (`Decides`), over
 //!   what is asked of `Batch::script`: `code`, `deal`; `Batch::limit`, its clause;
-//!   `Batch::policy`: `stands`, `plan` (`IsPlanOf`); `Batch::take`, its clause. A policy is made of
-//!   priorities, in the memory of another one: `pct_by`: `plan`, `stands`; `directed_by`: `plan`,
-//!   `stands`.
+//!   `Batch::policy`: `stands`, `plan` (`IsPlanOf`); `Batch::take`, its clause.
 #![tactic(auto)]
 
 mod alone;
 mod batch;
 mod batches;
-mod policies;
 mod ready;
 mod running;
 
 pub use batch::Batch;
 pub use batches::run_batch;
-pub use policies::{directed_by, pct_by};
 pub use ready::ReadyScript;

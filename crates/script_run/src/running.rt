@@ -80,7 +80,7 @@ impl ReadyScript<'_> {
             (Outcome.Verdict whole.verdict)) }
         ensures few { IfOk result (λ whole. length whole.events ≤ limit) }
     {
-        let policy = Pct::of_priorities(alloc, priorities)?;
+        let policy = Pct::of_priorities(alloc, priorities, None)?;
         let test = self.test(alloc, policy, limit)?;
         let played = run_test(rt, alloc, test, serve, gate)?;
         Ok(played.into_whole())
@@ -108,7 +108,7 @@ impl ReadyScript<'_> {
             ≡ Some (whole.events, whole.verdict)) }
         ensures few { IfOk result (λ whole. length whole.events ≤ limit) }
     {
-        let policy = DirectedPolicy::of_priorities(alloc, priorities)?;
+        let policy = DirectedPolicy::of_priorities(alloc, priorities, None)?;
         let test = self.test(alloc, policy, limit)?;
         let played = run_test(rt, alloc, test, serve, gate)?;
         Ok(played.into_whole())

@@ -17,7 +17,7 @@ use failure_rank::Tally;
 use pct_ask::{Event, Limit, Outcome, Row};
 use pct_outside::Gate;
 use policy_pick::{Pct, Priorities};
-use script_run::{Batch, ReadyScript, pct_by, run_batch};
+use script_run::{Batch, ReadyScript, run_batch};
 use std::alloc::{AllocError as NoMemory, Global};
 use std::sync::Wait;
 use std::thread::Threads;
@@ -104,7 +104,7 @@ impl Batch for NextRuns<'_> {
         let threads = sweep.script.deal.threads;
         let choice = choice_at(alloc, threads, sweep.steps, sweep.points, at)?;
         let (order, points) = (choice.order.as_slice(), choice.points.as_slice());
-        pct_by(alloc, &Priorities { order, points }, spare)
+        Pct::of_priorities(alloc, &Priorities { order, points }, spare)
     }
 
     fn take(

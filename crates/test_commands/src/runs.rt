@@ -11,7 +11,7 @@ use crate::scripts::{ADDERS, FAILED, FIRST_OF_A, code_and_deal};
 use pct_ask::{Event, Limit, Outcome, Verdict};
 use pct_outside::OpenGate;
 use policy_pick::{DirectedPriorities, Pct, Priorities};
-use script_run::{Batch, ReadyScript, pct_by, run_batch};
+use script_run::{Batch, ReadyScript, run_batch};
 use std::alloc::{AllocError as NoMemory, Global};
 use std::process::Abort;
 use std::sync::Wait;
@@ -73,7 +73,7 @@ impl Batch for Adders<'_> {
             order: &[0, 1, 2],
             points: &[4 - place],
         };
-        pct_by(alloc, &priorities, spare)
+        Pct::of_priorities(alloc, &priorities, spare)
     }
 
     fn take(

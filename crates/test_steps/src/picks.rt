@@ -303,36 +303,38 @@ fn policies_of_priorities(rt: HostRuntime) -> Result<(), Fail> {
         order: &ORDER,
         points: &[1],
     };
-    let lost = Pct::of_priorities(rt.alloc(), &first)?;
+    let lost = Pct::of_priorities(rt.alloc(), &first, None)?;
     expect_picks(&rt, lost, &LOST_UPDATE);
     let second = DirectedPriorities {
         order: &ORDER,
         moments: &SECOND_OF_A,
     };
-    let lowered = DirectedPolicy::of_priorities(rt.alloc(), &second)?;
+    let lowered = DirectedPolicy::of_priorities(rt.alloc(), &second, None)?;
     expect_picks(&rt, lowered, &SECOND_STEP);
     Ok(())
 }
 
 /// A policy by points that is made in the memory of another goes by its own order and points alone.
-fn expect_points_again(rt: &impl Abort, other: Pct) -> Result<(), Fail> {
+fn expect_points_again(rt: &impl Abort, alloc: Global, other: Pct) -> Result<(), Fail> {
     assert!(rt; is_order(&ORDER));
     let first = Priorities {
         order: &ORDER,
         points: &[1],
     };
-    expect_picks(rt, other.again(&first)?, &LOST_UPDATE);
+    let again = Pct::of_priorities(alloc, &first, Some(other))?;
+    expect_picks(rt, again, &LOST_UPDATE);
     Ok(())
 }
 
 /// The same by moments.
-fn expect_moments_again(rt: &impl Abort, other: DirectedPolicy) -> Result<(), Fail> {
+fn expect_moments_again(rt: &impl Abort, alloc: Global, other: DirectedPolicy) -> Result<(), Fail> {
     assert!(rt; is_order(&ORDER));
     let second = DirectedPriorities {
         order: &ORDER,
         moments: &SECOND_OF_A,
     };
-    expect_picks(rt, other.again(&second)?, &SECOND_STEP);
+    let again = DirectedPolicy::of_priorities(alloc, &second, Some(other))?;
+    expect_picks(rt, again, &SECOND_STEP);
     Ok(())
 }
 
@@ -340,15 +342,15 @@ fn expect_moments_again(rt: &impl Abort, other: DirectedPolicy) -> Result<(), Fa
 /// took a step under another order.
 #[test]
 fn policies_made_again(rt: HostRuntime) -> Result<(), Fail> {
-    expect_points_again(&rt, Pct::new(rt.alloc(), &[0], &[])?)?;
+    expect_points_again(&rt, rt.alloc(), Pct::new(rt.alloc(), &[0], &[])?)?;
     let mut large = Pct::new(rt.alloc(), &[2, 0, 1], &[1, 1, 2])?;
     expect_pick(&rt, &mut large, &[READY; 3], Pick::Thread(2), Some(2), 0);
-    expect_points_again(&rt, large)?;
-    expect_moments_again(&rt, DirectedPolicy::new(rt.alloc(), &[0], &[])?)?;
+    expect_points_again(&rt, rt.alloc(), large)?;
+    expect_moments_again(&rt, rt.alloc(), DirectedPolicy::new(rt.alloc(), &[0], &[])?)?;
     let moments = [FIRST_OF_B, FIRST_OF_A];
     let mut large = DirectedPolicy::new(rt.alloc(), &[1, 2, 0], &moments)?;
     expect_pick(&rt, &mut large, &[READY; 3], Pick::Thread(1), Some(1), 0);
-    expect_moments_again(&rt, large)?;
+    expect_moments_again(&rt, rt.alloc(), large)?;
     Ok(())
 }
 

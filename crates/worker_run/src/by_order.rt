@@ -75,7 +75,7 @@ pub fn run_by_points<R: Threads + Wait + Sync, B: Body, G: Gate>(
         IsPlayed (ByPoints priorities.now.order.now priorities.now.points.now) deal
         (map B.pending bodies.items) limit whole.events (Outcome.Verdict whole.verdict)) }
 {
-    let policy = Pct::of_priorities(alloc, priorities)?;
+    let policy = Pct::of_priorities(alloc, priorities, None)?;
     let played = run_threads(rt, alloc, deal, policy, limit.steps(), bodies, gate)?;
     Ok(played.into_whole())
 }
@@ -102,7 +102,7 @@ pub fn run_by_moments<R: Threads + Wait + Sync, B: Body, G: Gate>(
         IsPlayed (ByEvents priorities.now.order.now priorities.now.moments.now) deal
         (map B.pending bodies.items) limit whole.events (Outcome.Verdict whole.verdict)) }
 {
-    let policy = DirectedPolicy::of_priorities(alloc, priorities)?;
+    let policy = DirectedPolicy::of_priorities(alloc, priorities, None)?;
     let played = run_threads(rt, alloc, deal, policy, limit.steps(), bodies, gate)?;
     Ok(played.into_whole())
 }

@@ -30,7 +30,7 @@ impl<B: Body> Test<Pct, B> {
         ensures limit { IfOk result (λ test. test.limit ≡ limit) }
         ensures bodies { IfOk result (λ test. test.bodies ≡ bodies) }
     {
-        let policy = Pct::of_priorities(alloc, priorities)?;
+        let policy = Pct::of_priorities(alloc, priorities, None)?;
         Ok(Test {
             deal,
             policy,

@@ -24,6 +24,6 @@ returns-clause-plan c =
     ∙ ap (λ (steps : ℕ). drawn_points seed (2 * threads) steps (count + 1 - 1))
     c.steps.ensures.number
     ∙ ap (λ (many : ℕ). drawn_points seed (2 * threads) campaign.steps many) many in
-    seed-planned campaign seed _ c.pct_by.result _ _ order points c.seed_at.ensures
+    seed-planned campaign seed _ c.of_priorities.result _ _ order points c.seed_at.ensures
     (omega (arith, ap length c.as_slice-order.ensures, c.in_ok-order.ensures.order.whole))
-    c.pct_by.ensures.plan
+    c.of_priorities.ensures.plan

@@ -5,17 +5,17 @@ use Rattle.directive_run.proofs.Certificates.{low-at}
 use Rattle.directive_run.proofs.OrderRuns.{order-planned}
 use Rattle.directive_run.proofs.batches.ClaimBatch.policy.Goals as goal
 
-pub invariant_of-directed_by-clause-is_order :
-    goal.invariant_of-directed_by-clause-is_order
-invariant_of-directed_by-clause-is_order c =
+pub invariant_of-of_priorities-clause-is_order :
+    goal.invariant_of-of_priorities-clause-is_order
+invariant_of-of_priorities-clause-is_order c =
     let claim = c.args.self.now in
     let low =
     low-at claim.script.deal.now.threads claim.directive.now.low c.args.place c.in_ok-order.order
     claim.low c.in_ok-order.ensures in
     ∣ subst IsOrder (sym c.as_slice-order.ensures) low.is_order ∣₁
 
-pub directed_by-requires : goal.directed_by-requires
-directed_by-requires c =
+pub of_priorities-requires : goal.of_priorities-requires
+of_priorities-requires c =
     let claim = c.args.self.now in
     let low =
     low-at claim.script.deal.now.threads claim.directive.now.low c.args.place c.in_ok-order.order
@@ -29,7 +29,7 @@ returns-clause-plan c =
     let low =
     low-at claim.script.deal.now.threads claim.directive.now.low c.args.place c.in_ok-order.order
     claim.low c.in_ok-order.ensures in
-    order-planned claim c.args.place c.directed_by.result c.in_ok-order.order
+    order-planned claim c.args.place c.of_priorities.result c.in_ok-order.order
     c.as_slice-order.result.now c.as_slice-moments.result.now c.in_ok-order.ensures
     c.as_slice-order.ensures c.as_slice-moments.ensures
-    (ap length c.as_slice-order.ensures ∙ low.whole) c.directed_by.ensures.plan
+    (ap length c.as_slice-order.ensures ∙ low.whole) c.of_priorities.ensures.plan

@@ -5,24 +5,24 @@ use Rattle.sweep.proofs.Places.{listed-choice}
 use Rattle.sweep.proofs.Runs.{next-planned}
 use Rattle.sweep.proofs.batches.NextRunsBatch.policy.Goals as goal
 
-pub invariant_of-pct_by-clause-is_order :
-    goal.invariant_of-pct_by-clause-is_order
-invariant_of-pct_by-clause-is_order c =
+pub invariant_of-of_priorities-clause-is_order :
+    goal.invariant_of-of_priorities-clause-is_order
+invariant_of-of_priorities-clause-is_order c =
     let sweep = c.args.self.now.sweep.now in
     let listed = listed-choice sweep.script.deal.now.threads sweep.steps sweep.points
     c.index-at.result.now c.in_ok-choice.choice c.in_ok-choice.ensures in
     ∣ subst IsOrder (sym c.as_slice-order.ensures) listed.0.is_order ∣₁
 
-pub invariant_of-pct_by-clause-few_points :
-    goal.invariant_of-pct_by-clause-few_points
-invariant_of-pct_by-clause-few_points c =
+pub invariant_of-of_priorities-clause-few_points :
+    goal.invariant_of-of_priorities-clause-few_points
+invariant_of-of_priorities-clause-few_points c =
     let sweep = c.args.self.now.sweep.now in
     let listed = listed-choice sweep.script.deal.now.threads sweep.steps sweep.points
     c.index-at.result.now c.in_ok-choice.choice c.in_ok-choice.ensures in
     omega (arith, ap length c.as_slice-points.ensures, listed.1.long, sweep.few_points)
 
-pub pct_by-requires : goal.pct_by-requires
-pct_by-requires c =
+pub of_priorities-requires : goal.of_priorities-requires
+of_priorities-requires c =
     let sweep = c.args.self.now.sweep.now in
     let listed = listed-choice sweep.script.deal.now.threads sweep.steps sweep.points
     c.index-at.result.now c.in_ok-choice.choice c.in_ok-choice.ensures in
@@ -35,7 +35,7 @@ returns-clause-plan c =
     let sweep = next.sweep.now in
     let listed = listed-choice sweep.script.deal.now.threads sweep.steps sweep.points
     c.index-at.result.now c.in_ok-choice.choice c.in_ok-choice.ensures in
-    next-planned next c.args.place c.index-at.result.now c.in_ok-choice.choice c.pct_by.result
+    next-planned next c.args.place c.index-at.result.now c.in_ok-choice.choice c.of_priorities.result
     _ _ c.requires.place c.index-at.ensures c.in_ok-choice.ensures
     c.as_slice-order.ensures c.as_slice-points.ensures
-    (omega (arith, ap length c.as_slice-order.ensures, listed.0.whole)) c.pct_by.ensures.plan
+    (omega (arith, ap length c.as_slice-order.ensures, listed.0.whole)) c.of_priorities.ensures.plan

@@ -25,5 +25,5 @@ returns-clause-plan c =
     } in
     by_points points_plan common
     (λ played. IsRun (run ready.deal.now (bodies_of_code (listing ready.code.now)) order points 100)
-    played.events played.outcome) order (sym c.args.self.now.three) points c.pct_by.result
-    (λ ended ran short. ran) c.pct_by.ensures.plan
+    played.events played.outcome) order (sym c.args.self.now.three) points c.of_priorities.result
+    (λ ended ran short. ran) c.of_priorities.ensures.plan
