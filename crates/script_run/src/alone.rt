@@ -33,7 +33,8 @@ fn renew<'c>(
     Ok(())
 }
 
-/// The run of the policy by which the book goes. What became of it; its steps are the book's then.
+/// Makes the run of the policy by which the book goes, and gives its outcome. Its steps are the
+/// book's then.
 fn play<'s, R: Wait, P: Policy, G: Gate>(
     rt: &R,
     script: &ReadyScript<'s>,
@@ -100,6 +101,6 @@ pub fn run_alone<R: Wait, T: Batch, G: Gate>(
             return Ok(Some(answer));
         }
     }
-    serving.take_back(book.into_parts().0)?;
+    serving.take_back(book.into_parts().0);
     Ok(None)
 }

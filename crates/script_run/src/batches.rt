@@ -89,7 +89,7 @@ fn take_runs<T: Batch>(
 
 /// Makes the runs from one place to before another, and takes them in their order, up to one that
 /// comes to an answer. They are made at once by threads, or one after another by the caller, who
-/// serves what comes next, too, where there is no memory for threads.
+/// serves what comes next, too, where there was no memory for threads or one couldn't be started.
 pub fn run_batch<R: Threads + Wait + Sync, T: Batch, G: Gate>(
     rt: &R,
     alloc: Global,
@@ -111,7 +111,7 @@ pub fn run_batch<R: Threads + Wait + Sync, T: Batch, G: Gate>(
     match runs_of(rt, alloc, batch, start, end, serving, gate) {
         Ok(runs) => {
             let answer = take_runs(alloc, batch, kept, start, end, runs.as_slice())?;
-            serving.take_all_back(runs)?;
+            serving.take_all_back(runs);
             Ok(answer)
         }
         Err(NoMemory) => {

@@ -22,13 +22,13 @@
 //!   `run_by_moments`: `directed`, `played`; `Played::into_whole`: `events`, `verdict`; its number
 //!   of steps `step_count`, its clause; its verdict `verdict_of`, its clause.
 //! - `run_many` answers as many runs as tests, each what `run_threads` promises of its test:
-//!   `run_many`: `runs` (`Each`, `IsRunOf`); a test is made by `Test::by_points`.
+//!   `run_many`: `runs` (`Each`, `IsRunOf`). A test by an order and points: `Test::by_points`.
 //! - Batch after batch, in memory that is used again: by workers `run_many_by`: `runs`, `caller`;
-//!   by the caller `run_by_caller`: `run`, `by`; over a book of turns and runners that are used
-//!   again `serve_by_caller`: `run`, `outcome`, `making` (`IsRunBy`, `AreNew`), a runner made by
-//!   `Runner::new`. None depends on what `Serving` holds, of which clauses say only who
-//!   serves: `Serving::new`; `Serving::is_by_caller`; `Serving::leave_to_caller`;
-//!   `Serving::next_trace`; `Serving::take_back`; `Serving::take_all_back`.
+//!   by the caller over a book of turns and runners `serve_by_caller`: `run`, `outcome`, `making`
+//!   (`IsRunBy`, `AreNew`), a runner made by `Runner::new`. None depends on what `Serving` holds, of
+//!   which clauses say only who serves: `Serving::new`; `Serving::is_by_caller`;
+//!   `Serving::leave_to_caller`; `Serving::next_trace`; `Serving::take_back`;
+//!   `Serving::take_all_back`.
 //! - After Ok of `run_on` the lent seat serves all threads again and has seen that run with its
 //!   outcome, also where a thread can't be started; out of memory leaves it as it was: `run_on`:
 //!   `of`, `all`, `played`, `no_memory` (`HasPlayed`).
@@ -52,7 +52,7 @@ mod tasks;
 mod workers;
 
 pub use batch::Test;
-pub use by_caller::{run_by_caller, serve_by_caller};
+pub use by_caller::serve_by_caller;
 pub use by_order::{WholeRun, run_by_moments, run_by_points};
 pub use lent::run_on;
 pub use many::{RUNS_AT_ONCE, run_many, run_many_by};

@@ -169,8 +169,7 @@ fn caller_served<P: Policy, B: Body>(shares: &[Share<P, B>]) -> bool {
 }
 
 /// Runs many tests as `run_many` does, in the memory of traces that were taken back. Where a thread
-/// couldn't be started, the caller is to serve what comes next. Where there is no memory, runs that
-/// were made before are lost.
+/// couldn't be started, the caller is to serve what comes next.
 pub fn run_many_by<R: Threads + Wait + Sync, P: Policy, B: Body, G: Gate>(
     rt: &R,
     alloc: Global,

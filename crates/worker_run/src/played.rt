@@ -4,7 +4,7 @@ ghost use Rattle.pct_ask.specs.declared.verdict.Verdict.{Verdict};
 
 use pct_ask::{Event, EventList, Limit, Outcome, Verdict};
 
-/// A run: its steps, and what became of it.
+/// A run: its steps, and its outcome.
 #[derive(Debug, Drop)]
 pub struct Played {
     pub events: EventList,
@@ -20,7 +20,7 @@ pub fn step_count(events: &[Event], limit: Limit) -> u32
     events.len() as u32
 }
 
-/// The verdict that ended a run, as one ends each run by an order.
+/// The verdict of an outcome that is one, as that of each run by an order is.
 pub fn verdict_of(outcome: &Outcome) -> Verdict
     requires { (verdict : Verdict) × (outcome.now ≡ Outcome.Verdict verdict) }
     ensures { outcome.now ≡ Outcome.Verdict result }

@@ -111,37 +111,8 @@ pub fn run_here<R: Wait, P: Policy, B: Body, G: Gate>(
         → P.plan policy ≡ ByEvents order moments → IfOk result (λ played. IsRun (directed_run deal
         (map B.pending bodies.items) order moments limit) played.events played.outcome) }
 {
-    let limit = Limit::new(limit);
-    let trace = Sequence::new(alloc);
-    run_here_in(rt, alloc, deal, policy, limit, bodies, trace, gate)
-}
-
-/// As `run_here`, with the run's steps in the memory of a trace that nobody needs any more.
-pub fn run_here_in<R: Wait, P: Policy, B: Body, G: Gate>(
-    rt: &R,
-    alloc: Global,
-    deal: Deal,
-    policy: P,
-    limit: Limit,
-    bodies: Vec<B>,
-    trace: EventList,
-    gate: &G,
-) -> Result<Played, NoMemory>
-    requires stands { P.stands policy [] }
-    requires speaks { SpeaksOf (P.plan policy) deal.threads }
-    requires bodies { length bodies.items ≡ deal.threads }
-    requires in_range { AreInRange (sizes_of_deal deal) (map B.pending bodies.items) }
-    ensures played { IfOk result (λ played. IsPlayed (P.plan policy) deal
-        (map B.pending bodies.items) limit played.events played.outcome) }
-    ensures run { (order points : List ℕ)
-        → P.plan policy ≡ ByPoints order points → IfOk result (λ played. IsRun (run deal
-        (map B.pending bodies.items) order points limit) played.events played.outcome) }
-    ensures directed { (order : List ℕ) (moments : List Moment)
-        → P.plan policy ≡ ByEvents order moments → IfOk result (λ played. IsRun (directed_run deal
-        (map B.pending bodies.items) order moments limit) played.events played.outcome) }
-{
     let mut runners = runners_of(alloc, bodies)?;
-    let mut book = book_of(alloc, deal, policy, limit, trace)?; // served with no lock
+    let mut book = TurnBook::new(alloc, deal, policy, limit)?; // served with no lock
     serve_by_caller(rt, &mut book, runners.as_mut_slice(), gate);
     Ok(played_of(book))
 }

@@ -3,7 +3,7 @@ ghost use Rattle.std.specs.Prelude.{◌≡◌, true, ◌↔◌};
 
 use crate::played::Played;
 use pct_ask::{EventList, Sequence};
-use std::alloc::{AllocError as NoMemory, Global};
+use std::alloc::Global;
 
 /// Who serves the bodies of tests.
 #[derive(Clone, Copy, Debug, PartialEq, Eq)]
@@ -58,21 +58,20 @@ impl Serving {
         }
     }
 
-    /// Takes the trace of a run that was read, for further runs.
-    pub fn take_back(&mut self, trace: EventList) -> Result<(), NoMemory>
+    /// Takes the trace of a run that was read, for further runs. Where there is no memory to keep
+    /// it, it is dropped.
+    pub fn take_back(&mut self, trace: EventList)
         ensures { self.new.by ≡ self.old.by }
     {
-        self.traces.push(trace)?;
-        Ok(())
+        let _dropped = self.traces.push(trace);
     }
 
     /// Takes the traces of runs that were read, for further runs.
-    pub fn take_all_back(&mut self, runs: Vec<Played>) -> Result<(), NoMemory>
+    pub fn take_all_back(&mut self, runs: Vec<Played>)
         ensures { self.new.by ≡ self.old.by }
     {
         for played in runs {
-            self.take_back(played.events)?;
+            self.take_back(played.events);
         }
-        Ok(())
     }
 }

@@ -5,4 +5,4 @@ pub loop-played-init : goal.loop-played-init
 loop-played-init c = refl
 
 pub loop-played-preserved : goal.loop-played-preserved
-loop-played-preserved c = c.in_ok-take_back.ensures ∙ c.loop-played.invariant
+loop-played-preserved c = c.take_back.ensures ∙ c.loop-played.invariant
