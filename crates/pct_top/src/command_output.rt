@@ -1,4 +1,4 @@
-//! What comes of a command.
+//! What a command writes.
 
 use crate::status::Status;
 

@@ -2,10 +2,11 @@
 //!
 //! What is proved, by call and clause; in parentheses the definitions:
 //!
-//! - The call's one clause, as above: `pct` (`IsCall.ends`, `IsCall.exact`, `IsCall.complete`,
-//!   `IsCall.refused`, `IsCall.shelf`, `IsCall.unread`, `Output`, `OfCommand`, `OfOrdered`,
-//!   `OfSeed`, `OfDrawn`, `OfCampaign`, `OfReplay`, `OfBig`, `OfExpose`, `OfCertify`, `OfSweep`,
-//!   `OfReport`, `PrintsRaces`, `PrintsLocks`, `PrintsFound`).
+//! - What the call writes, and how it ends, is what the definitions say of its words and files:
+//!   `pct` (`IsCall.ends`, `IsCall.exact`, `IsCall.complete`, `IsCall.refused`, `IsCall.shelf`,
+//!   `IsCall.unread`, `Output`, `OfCommand`, `OfOrdered`, `OfSeed`, `OfDrawn`, `OfCampaign`,
+//!   `OfReplay`, `OfBig`, `OfExpose`, `OfCertify`, `OfSweep`, `OfReport`, `PrintsRaces`,
+//!   `PrintsLocks`, `PrintsFound`).
 //! - Words are read as defined and keep their ranges; a Word names exactly the first that isn't
 //!   taken: `read_words`: `settings`, `lawful`; `Text::copy_of`; `Text::as_str`.
 //! - A refusal has its status and its line: `Refusal::status` (`status_of_refusal`); `say`

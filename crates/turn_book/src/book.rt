@@ -25,8 +25,8 @@ use std::mem;
 
 /// A book of turns. Threads post what they ask, and the policy says whose turn it is. A thread goes
 /// on as soon as that is known, also where others haven't posted. Contracts see a book as what it
-/// was made with, each thread's posts, the steps and the outcome. Only `new` takes memory, and
-/// every call's time grows with the number of threads at most.
+/// was made with, each thread's posts, the steps and the outcome. Only the calls that make a book
+/// take memory. The time of a post or a step grows with the number of threads at most.
 #[derive(Drop)]
 pub struct TurnBook<P: Policy> {
     deal: Deal,
