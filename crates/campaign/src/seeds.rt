@@ -9,11 +9,11 @@ use crate::common::Campaign;
 use pct_ask::{Deal, Depth, Limit, RowList};
 use pct_outside::Gate;
 use script_code::Code;
-use script_run::{ReadyScript, run_batch};
+use script_run::{ReadyScript, run_batches};
 use std::alloc::{AllocError as NoMemory, Global};
 use std::sync::Wait;
 use std::thread::Threads;
-use worker_run::{RUNS_AT_ONCE, Serve, Serving};
+use worker_run::{RUNS_AT_ONCE, Serve};
 
 /// A campaign as `campaign` gives it, whose bodies are served by threads or by the caller. Where a
 /// thread couldn't be started, or there was no memory for threads, the caller serves the rest.
@@ -51,23 +51,18 @@ pub fn campaign_by<R: Threads + Wait + Sync, G: Gate>(
         steps,
         limit,
     };
-    let mut serving = Serving::new(alloc, serve);
     let mut rows = Vec::with_capacity(alloc, count as usize)?;
-    let mut start = 0;
-    'batches: while start < count {
-        let end = start + RUNS_AT_ONCE.min(count - start);
-        run_batch(
-            rt,
-            alloc,
-            &campaign,
-            &mut rows,
-            start,
-            end,
-            &mut serving,
-            gate,
-        )?;
-        start = end;
-    }
+    let first_batch = RUNS_AT_ONCE;
+    run_batches(
+        rt,
+        alloc,
+        &campaign,
+        &mut rows,
+        count,
+        first_batch,
+        serve,
+        gate,
+    )?;
     Ok(RowList::from_vec(rows))
 }
 

@@ -14,11 +14,11 @@ use directive::Directive;
 use pct_ask::{Deal, Limit, MAX_CERTIFIED_THREADS};
 use pct_outside::Gate;
 use script_code::Code;
-use script_run::{ReadyScript, run_batch};
+use script_run::{ReadyScript, run_batches};
 use std::alloc::{AllocError as NoMemory, Global};
 use std::sync::Wait;
 use std::thread::Threads;
-use worker_run::{RUNS_AT_ONCE, Serve, Serving};
+use worker_run::Serve;
 
 /// As `certify`, with bodies that are served by threads or by the caller. Where a thread couldn't
 /// be started, or there was no memory for threads, the caller serves the rest.
@@ -50,26 +50,8 @@ pub fn certify_by<R: Threads + Wait + Sync, G: Gate>(
     };
     let mut rows = CertifyRows::new(alloc);
     let total = order_count(threads - 1);
-    let most = RUNS_AT_ONCE;
-    let mut serving = Serving::new(alloc, serve);
-    let mut size: u32 = 1;
-    let mut start = 0;
-    'batches: while start < total {
-        let end = start + size.min(total - start);
-        if let Some(certified) = run_batch(
-            rt,
-            alloc,
-            &claim,
-            &mut rows,
-            start,
-            end,
-            &mut serving,
-            gate,
-        )? {
-            return Ok(certified);
-        }
-        start = end;
-        size = most.min(2 * size);
+    if let Some(certified) = run_batches(rt, alloc, &claim, &mut rows, total, 1, serve, gate)? {
+        return Ok(certified);
     }
     let bound = bound_of(threads, steps.steps(), directive.events.len());
     Ok(Certified::Yes { bound, rows })

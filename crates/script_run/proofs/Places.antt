@@ -57,8 +57,8 @@ module _ {P : Type 0} {B : Type 0} {E : Type 0} (pending : B → Pending) (plan 
   as-many first end tests (Ok runs) long ran = omega (arith, ran.long, long)
   as-many first end tests (Err e) long ran = tt
 
--- what is promised of a run by threads, in one
-pub threads-ran : {P : Type 0} {B : Type 0} {E : Type 0} (pending : B → Pending) (plan : P → Plan)
+-- what is promised of a run, in one
+pub one-ran : {P : Type 0} {B : Type 0} {E : Type 0} (pending : B → Pending) (plan : P → Plan)
     (test : Test P B) (limit : ℕ) (made : Result Played E) → limit ≡ test.limit
     → IfOk made (λ p. IsPlayed (plan test.policy) test.deal (bodies_in pending plan test) limit
     p.events p.outcome)
@@ -67,7 +67,7 @@ pub threads-ran : {P : Type 0} {B : Type 0} {E : Type 0} (pending : B → Pendin
     → ((order : List ℕ) (moments : List Moment) → plan test.policy ≡ ByEvents order moments
     → IfOk made (λ p. IsRun (directed_run test.deal (bodies_in pending plan test) order moments
     limit) p.events p.outcome)) → IfOk made (IsRunOf pending plan test)
-threads-ran pending plan test limit (Ok ended) same played by_points by_moments =
+one-ran pending plan test limit (Ok ended) same played by_points by_moments =
     let bodies = bodies_in pending plan test in
     record {
       played = subst (λ (most : ℕ). IsPlayed (plan test.policy) test.deal bodies most ended.events
@@ -80,4 +80,4 @@ threads-ran pending plan test limit (Ok ended) same played by_points by_moments 
           IsRun (directed_run test.deal bodies order moments most) ended.events ended.outcome) same
           (by_moments order moments is);
     }
-threads-ran pending plan test limit (Err e) same played by_points by_moments = tt
+one-ran pending plan test limit (Err e) same played by_points by_moments = tt

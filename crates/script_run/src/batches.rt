@@ -13,7 +13,7 @@ use script_body::ScriptBody;
 use std::alloc::{AllocError as NoMemory, Global};
 use std::sync::Wait;
 use std::thread::Threads;
-use worker_run::{Played, Serving, Test, run_many_by};
+use worker_run::{Played, RUNS_AT_ONCE, Serve, Serving, Test, run_many_by};
 
 /// The tests from one place to before another.
 fn tests_of<'b, T: Batch>(
@@ -119,4 +119,38 @@ pub fn run_batch<R: Threads + Wait + Sync, T: Batch, G: Gate>(
             run_alone(rt, alloc, batch, kept, start, end, serving, gate)
         }
     }
+}
+
+/// Makes the first `total` runs in batches, and takes them in their order, up to one that comes to
+/// an answer. A batch has twice the runs of the one before, and the first one has `first`, but none
+/// more than `RUNS_AT_ONCE`.
+pub fn run_batches<R: Threads + Wait + Sync, T: Batch, G: Gate>(
+    rt: &R,
+    alloc: Global,
+    batch: &T,
+    kept: &mut T::Kept,
+    total: u32,
+    first: u32,
+    serve: Serve,
+    gate: &G,
+) -> Result<Option<T::Answer>, NoMemory>
+    requires within { total ≤ T.size batch.now }
+    requires some { 1 ≤ first }
+    requires stands { T.stands batch.now kept.old 0 }
+    ensures { IfOk result (Decides (T.stands batch.now) (T.answers batch.now) kept.new total) }
+{
+    let mut serving = Serving::new(alloc, serve);
+    let most = RUNS_AT_ONCE;
+    let first = most.min(first);
+    let mut size = first;
+    let mut start = 0;
+    'batches: while start < total {
+        let end = start + size.min(total - start);
+        if let Some(answer) = run_batch(rt, alloc, batch, kept, start, end, &mut serving, gate)? {
+            return Ok(Some(answer));
+        }
+        start = end;
+        size = most.min(2 * size);
+    }
+    Ok(None)
 }

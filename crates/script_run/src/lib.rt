@@ -10,9 +10,10 @@
 //! - The run of its test by a policy is what the policy makes of its threads: `ReadyScript::test`:
 //!   `run`, `asked` (`Tries`, `IsRunBy`).
 //! - The runs of a batch are taken in their order, each once, as the run that its place has, up to
-//!   the first that comes to an answer, whoever serves: `run_batch`, its clause (`Decides`), over
-//!   what is asked of `Batch::script`: `code`, `deal`; `Batch::limit`, its clause;
-//!   `Batch::policy`: `stands`, `plan` (`IsPlanOf`); `Batch::take`, its clause.
+//!   the first that comes to an answer, whoever serves: of one batch `run_batch`, of batch after
+//!   batch `run_batches`, their clauses (`Decides`), over what is asked of `Batch::script`: `code`,
+//!   `deal`; `Batch::limit`, its clause; `Batch::policy`: `stands`, `plan` (`IsPlanOf`);
+//!   `Batch::take`, its clause.
 #![tactic(auto)]
 
 mod alone;
@@ -22,5 +23,5 @@ mod ready;
 mod running;
 
 pub use batch::Batch;
-pub use batches::run_batch;
+pub use batches::{run_batch, run_batches};
 pub use ready::ReadyScript;

@@ -19,7 +19,7 @@ use policy_pick::{DirectedPolicy, DirectedPriorities, Pct, Policy, Priorities};
 use std::alloc::{AllocError as NoMemory, Global};
 use std::sync::Wait;
 use std::thread::Threads;
-use worker_run::{Played, Serve, Serving, Test, WholeRun, run_by_caller, run_threads};
+use worker_run::{Played, Serve, Test, WholeRun, run_here, run_threads};
 
 /// The run of a test, whose bodies are served by threads or by the caller.
 fn run_test<R: Threads + Wait + Sync, P: Policy, B: Body, G: Gate>(
@@ -32,20 +32,16 @@ fn run_test<R: Threads + Wait + Sync, P: Policy, B: Body, G: Gate>(
     requires test { IsTest B.pending P.plan P.stands test }
     ensures { IfOk result (IsRunOf B.pending P.plan test) }
 {
+    let Test {
+        deal,
+        policy,
+        limit,
+        bodies,
+    } = test;
+    let steps = limit.steps();
     match serve {
-        Serve::Threads => {
-            let Test {
-                deal,
-                policy,
-                limit,
-                bodies,
-            } = test;
-            run_threads(rt, alloc, deal, policy, limit.steps(), bodies, gate)
-        }
-        Serve::Caller => {
-            let mut serving = Serving::new(alloc, serve);
-            run_by_caller(rt, alloc, test, &mut serving, gate)
-        }
+        Serve::Threads => run_threads(rt, alloc, deal, policy, steps, bodies, gate),
+        Serve::Caller => run_here(rt, alloc, deal, policy, steps, bodies, gate),
     }
 }
 

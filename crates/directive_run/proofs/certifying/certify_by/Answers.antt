@@ -1,7 +1,6 @@
--- The batches come one after another, until the orders are all led to the verdict or one decides.
-use Rattle.std.proofs.Common.{◌≡◌, ℕ, ◌+◌, ◌-◌, ◌*◌, ◌^◌, ◌≤◌, List, min, length, ap, subst, ◌∙◌}
+-- The orders are all led to the verdict, or one decides.
+use Rattle.std.proofs.Common.{◌*◌, ◌^◌, ◌≤◌, List, length, ap, subst, ◌∙◌}
 use Rattle.std.proofs.Common.{arith}
-use Rattle.std.proofs.Math.Nat.{le-min, min-le_left, min-le_right}
 use Rattle.pct_ask.specs.Bodies.{Pending}
 use Rattle.script_code.specs.Listing.{listing}
 use Rattle.script_body.proofs.laws.ScriptBodies.{code_bodies}
@@ -12,33 +11,6 @@ use Rattle.directive_run.specs.Tested.{DirectedSetup, HasRowsBefore}
 use Rattle.directive_run.specs.declared.answers.Certified.TheVariants.{Yes}
 use Rattle.directive_run.proofs.Certificates.{all-rows, certified}
 use Rattle.directive_run.proofs.certifying.certify_by.Goals as goal
-
-pub batches-preserved : goal.batches-preserved
-batches-preserved g c =
-    let setup : DirectedSetup = record {
-      deal = c.args.deal.now;
-      bodies = bodies_of_code (listing c.args.code.now);
-      directive = c.args.directive.now;
-      steps = c.args.steps;
-      limit = c.args.limit;
-    } in
-    let at = c.batches.invariant in
-    let left = c.order_count-total.result - c.batches.start in
-    let most : ℕ = 64 in
-    let twice = 2 * c.batches.size in
-    let step : c.min.result ≡ min c.batches.size left = c.min.ensures in
-    let next : c.min-size.result ≡ min most twice = c.min-size.ensures in
-    let double : 1 ≤ twice = omega (arith, at.some) in
-    let some : 1 ≤ min most twice = le-min (omega arith) double in
-    record {
-      within = omega (arith, at.within, step, min-le_right c.batches.size left);
-      some = omega (arith, next, some);
-      few = omega (arith, next, min-le_left most twice);
-      rows = undecided (HasRowsBefore setup)
-          (λ rows certified. Certifies setup.deal setup.bodies setup.directive setup.steps
-          setup.limit certified) c.run_batch.new.kept (c.batches.start + c.min.result)
-          c.in_ok-certified.field-0 c.in_ok-certified.ensures c.in_default.is;
-    }
 
 pub returns-in-Some : goal.returns-in-Some
 returns-in-Some g c = λ script of.
@@ -55,7 +27,7 @@ returns-in-Some g c = λ script of.
     subst B (code_bodies script code of.is_code)
     (decided (HasRowsBefore setup)
     (λ rows certified. Certifies setup.deal setup.bodies setup.directive setup.steps setup.limit
-    certified) c.run_batch.new.kept (c.batches.start + c.min.result) c.in_ok-certified.field-0
+    certified) c.run_batches.new.kept c.order_count-total.result c.in_ok-certified.field-0
     c.in_ok-certified.ensures c.in-Some.certified c.in-Some.is)
 
 pub returns : goal.returns
@@ -64,16 +36,26 @@ returns g c = λ script of.
     let code = listing c.args.code.now in
     let directive = c.args.directive.now in
     let few : deal.threads ≤ 7 = omega (arith, c.if-threads-gt-MAX_CERTIFIED_THREADS.false) in
-    let has = c.batches.invariant.rows in
+    let setup : DirectedSetup = record {
+      deal = deal;
+      bodies = bodies_of_code code;
+      directive = directive;
+      steps = c.args.steps;
+      limit = c.args.limit;
+    } in
+    let made = c.run_batches.new.kept in
+    let has = undecided (HasRowsBefore setup)
+    (λ rows certified. Certifies setup.deal setup.bodies setup.directive setup.steps setup.limit
+    certified) made c.order_count-total.result c.in_ok-certified.field-0 c.in_ok-certified.ensures
+    c.in_default.is in
     let rows =
-    all-rows deal (bodies_of_code code) directive c.args.steps c.args.limit c.batches.rows
-    (length c.batches.rows) c.requires.low
-    (omega (arith, c.order_count-total.ensures, c.batches-test.false, has.long)) has.are in
+    all-rows deal (bodies_of_code code) directive c.args.steps c.args.limit made (length made)
+    c.requires.low (omega (arith, c.order_count-total.ensures, has.long)) has.are in
     let B : List Pending → Type 0 = λ bodies. Certifies deal bodies directive c.args.steps
-    c.args.limit (Yes c.bound_of-bound.result c.batches.rows) in
+    c.args.limit (Yes c.bound_of-bound.result made) in
     subst B (code_bodies script code of.is_code)
     (certified deal (bodies_of_code code) directive c.args.steps c.args.limit c.requires.low
-    c.batches.rows c.bound_of-bound.result
+    made c.bound_of-bound.result
     (omega (arith, c.steps.ensures.number, c.steps.ensures.fits.0)) few rows
     (c.bound_of-bound.ensures ∙ ap (λ n. deal.threads * c.steps.result ^ n) c.len.ensures
     ∙ ap (λ s. deal.threads * s ^ length directive.events) c.steps.ensures.number))
