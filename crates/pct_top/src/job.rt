@@ -11,11 +11,11 @@ ghost use Rattle.pct_top.specs.Reads.{KeepsSecond, is_unread};
 ghost use Rattle.pct_top.specs.Call.{MissesSecond};
 
 use crate::command_output::CommandOutput;
+use crate::commands::campaign_command::CampaignJob;
 use crate::commands::certify::CertifyJob;
-use crate::commands::every::SweepJob;
 use crate::commands::expose::ExposeJob;
 use crate::commands::replay::{ReplayJob, reply_to_file};
-use crate::commands::seeds::CampaignJob;
+use crate::commands::sweep_command::SweepJob;
 use crate::refusal::Refusal;
 use crate::reports::{OrderedRun, SeededRun};
 use crate::test::ReadyTest;

@@ -4,11 +4,11 @@ ghost use Rattle.std.specs.Prelude.{◌≡◌};
 ghost use Rattle.pct_top.specs.Settings.{AreLawful};
 ghost use Rattle.pct_top.specs.Plan.{asked_by};
 
+use crate::commands::campaign_command::CampaignJob;
 use crate::commands::certify::CertifyJob;
-use crate::commands::every::SweepJob;
 use crate::commands::expose::ExposeJob;
 use crate::commands::replay::ReplayJob;
-use crate::commands::seeds::CampaignJob;
+use crate::commands::sweep_command::SweepJob;
 use crate::job::Job;
 use crate::reports::{OrderedRun, SeededRun};
 use crate::settings::Settings;

@@ -6,7 +6,10 @@ ghost use Rattle.pct_ask.specs.Words.{is_name};
 ghost use Rattle.pct_top.specs.Values as values;
 
 use crate::text::{Text, TextList};
-use pct_ask::{MAX_THREADS, PointList, first_pieces, is_lawful_name, number_in, step_counts};
+use pct_ask::{
+    MAX_DEPTH, MAX_POINTS, MAX_THREADS, PointList, first_pieces, is_lawful_name, number_in,
+    step_counts,
+};
 use std::alloc::{AllocError as NoMemory, Global};
 use worker_run::Serve;
 
@@ -47,7 +50,7 @@ pub fn seed_in(word: &str) -> Option<u64>
 pub fn depth_in(word: &str) -> Option<u32>
     ensures { result ≡ values.depth_in word.now }
 {
-    let depth = number_in(1, 8, word.as_bytes())?;
+    let depth = number_in(1, u64::from(MAX_DEPTH), word.as_bytes())?;
     Some(depth as u32)
 }
 
@@ -88,12 +91,12 @@ pub fn serve_in(word: &str) -> Option<Serve>
     }
 }
 
-/// The numbers of steps that a value lists, where it lists one to seven.
+/// The numbers of steps that a value lists, where it lists one to `MAX_POINTS`.
 pub fn points_in(alloc: Global, value: &str) -> Result<Option<PointList>, NoMemory>
     ensures { IfOk result (λ points. points ≡ values.points_in value.now) }
 {
-    let items = first_pieces(alloc, value.as_bytes(), b',', 8)?;
-    if items.len() > 7 {
+    let items = first_pieces(alloc, value.as_bytes(), b',', MAX_POINTS + 1)?;
+    if items.len() > MAX_POINTS {
         return Ok(None);
     }
     step_counts(alloc, items.as_slice())

@@ -12,7 +12,7 @@ ghost use Rattle.pct_top.specs.CommandOutput.{printed_of, GivesPrinted};
 ghost use Rattle.pct_top.specs.commands.Big.{failures as failures_by, big_lines, OfBig};
 
 use crate::command_output::CommandOutput;
-use crate::commands::seeds::all_pass;
+use crate::commands::campaign_command::all_pass;
 use crate::files::large_test;
 use crate::lines::{push_count, push_size};
 use crate::refusal::Refusal;

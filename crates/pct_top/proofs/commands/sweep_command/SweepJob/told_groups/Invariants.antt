@@ -1,7 +1,7 @@
 use Rattle.std.proofs.Common.{take}
 use Rattle.pct_top.specs.commands.Campaign.{frame_of}
 use Rattle.pct_top.specs.commands.Sweep.{AreTold}
-use Rattle.pct_top.proofs.commands.every.SweepJob.told_groups.Given as goal
+use Rattle.pct_top.proofs.commands.sweep_command.SweepJob.told_groups.Given as goal
 
 abbrev pub invariant-loop-group : goal.invariant-loop-group
 invariant-loop-group l =

@@ -3,7 +3,7 @@ use Rattle.std.specs.Prelude.{IfOk}
 use Rattle.pct_ask.specs.NameLists.{NameLists}
 use Rattle.report_text.specs.SweepJson.{sweep_json_of}
 use Rattle.report_text.specs.SweepText.{sweep_text_of}
-use Rattle.pct_top.proofs.commands.every.write_report.Goals as goal
+use Rattle.pct_top.proofs.commands.sweep_command.write_report.Goals as goal
 
 pub returns-then-json : goal.returns-then-json
 returns-then-json c =

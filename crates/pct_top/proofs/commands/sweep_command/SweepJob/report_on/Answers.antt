@@ -18,7 +18,7 @@ use Rattle.pct_top.specs.commands.Campaign.{frame_of}
 use Rattle.pct_top.specs.commands.Sweep.{swept_setup, AreTold, sweep_report}
 use Rattle.pct_top.specs.commands.Sweep.{too_many_text}
 use Rattle.pct_top.proofs.KnownSwept.{first-choices, told-known}
-use Rattle.pct_top.proofs.commands.every.SweepJob.report_on.Goals as goal
+use Rattle.pct_top.proofs.commands.sweep_command.SweepJob.report_on.Goals as goal
 
 -- what was swept with the frame's numbers is what the job asks for
 swept : (script : ScriptText) (deal : Deal) (depth steps limit points : ℕ) (frame : Frame)

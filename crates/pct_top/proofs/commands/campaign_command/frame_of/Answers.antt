@@ -1,4 +1,4 @@
-use Rattle.pct_top.proofs.commands.seeds.frame_of.Goals as goal
+use Rattle.pct_top.proofs.commands.campaign_command.frame_of.Goals as goal
 
 pub returns-clause-made : goal.returns-clause-made
 returns-clause-made c = λ i. record {

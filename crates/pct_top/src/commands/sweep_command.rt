@@ -11,7 +11,7 @@ ghost use Rattle.pct_top.specs.commands.Sweep.{told_as, AreTold, sweep_report};
 ghost use Rattle.pct_top.specs.commands.Sweep.{too_many_text, OfSweep};
 
 use crate::command_output::CommandOutput;
-use crate::commands::seeds::frame_of;
+use crate::commands::campaign_command::frame_of;
 use crate::lines::push_count;
 use crate::run_plan::steps_of;
 use crate::test::ReadyTest;

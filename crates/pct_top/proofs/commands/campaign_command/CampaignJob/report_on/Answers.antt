@@ -7,7 +7,7 @@ use Rattle.report_text.specs.declared.frame.Frame.{Frame}
 use Rattle.pct_top.specs.Printed.{printed_text}
 use Rattle.pct_top.specs.commands.Campaign.{setup_of, campaign_text, all_pass}
 use Rattle.pct_top.proofs.KnownRows.{rows-known}
-use Rattle.pct_top.proofs.commands.seeds.CampaignJob.report_on.Goals as goal
+use Rattle.pct_top.proofs.commands.campaign_command.CampaignJob.report_on.Goals as goal
 
 pub rank-requires : goal.rank-requires
 rank-requires g c =
