@@ -136,17 +136,17 @@ written so far.
         "\
 TooMany, of a script: there are more than 16 threads (64 with script 3), or more than 64 objects of
 a kind, or blocks within blocks deeper than 32; or the text has more than 1048576 bytes, which is
-told of line 1. For more than 16 threads write the header script 3.
+said of line 1. For more than 16 threads write the header script 3.
 ",
     ),
     (
         "TooLong",
         "\
-TooLong, of a trace: it has more than 16777216 bytes, which is told of line 1, or a step's number is
+TooLong, of a trace: it has more than 16777216 bytes, which is said of line 1, or a step's number is
 above the limit on its fourth line. Usual causes: another file; a limit that was changed by hand.
 Make it once more by run.
 
-TooLong, of a directive: it has more than 65536 bytes, which is told of line 1, or an eighth line
+TooLong, of a directive: it has more than 65536 bytes, which is said of line 1, or an eighth line
 after. Usual causes: another file; a line after was added by hand. Make it once more by find.
 ",
     ),

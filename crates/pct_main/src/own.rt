@@ -32,13 +32,13 @@ usage: pct run FILE --order NAMES [--points STEPS] [--limit STEPS]
 
 FILE is the script. NAMES are all its threads, joined by commas, the highest priority first, and
 the points are the numbers of the steps after which the thread that took the step is lowered. A
-seed draws the order and the points, one less of them than the depth. A run has at most so many
-steps as its limit says, 10000 where it says nothing. A campaign runs so many seeds from the first
-one on; big does so with a large script of its own, and sweep runs every order with every so many
+seed draws the order and the points, one less of them than the depth. A run has at most as many
+steps as its limit, 10000 where none is given. A campaign runs that number of seeds from the first
+one on; big does so with a large script of its own, and sweep runs every order with every list of
 points among the steps. A directive is what find prints; expose prints the trace of its run, and
-certify whether each order leads to its verdict within so many steps. With --serve caller one thread
+certify whether each order leads to its verdict within these steps. With --serve caller one thread
 makes all runs, and what is printed is the same; taskset -c 0 before pct pins any call to one
-processor. What either brings: see docs/performance.md.
+processor. Beside other work either makes a campaign many times faster.
 The status is 0 where each run passes, there are no races, there is a lock order, the trace is
 confirmed, what is exposed has the directive's verdict or the directive is certified, 1 where not,
 2 for a word that isn't taken, 3, 4 and 5 for files that are no script, no trace and no directive,
