@@ -39,7 +39,8 @@ impl Schedule {
         }
     }
 
-    /// With these change points: right after each of these steps its thread is put last. At most 7.
+    /// With these change points, at most 7: right after each of these steps its thread is lowered
+    /// below all that never were.
     pub fn points(mut self, points: &[u32]) -> Schedule {
         self.points = points.to_vec();
         self
