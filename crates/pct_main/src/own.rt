@@ -38,7 +38,7 @@ one on; big does so with a large script of its own, and sweep runs every order w
 points among the steps. A directive is what find prints; expose prints the trace of its run, and
 certify whether each order leads to its verdict within these steps. With --serve caller one thread
 makes all runs, and what is printed is the same; taskset -c 0 before pct pins any call to one
-processor. Beside other work either makes a campaign many times faster.
+processor. Beside other work either may make a campaign many times faster.
 The status is 0 where each run passes, there are no races, there is a lock order, the trace is
 confirmed, what is exposed has the directive's verdict or the directive is certified, 1 where not,
 2 for a word that isn't taken, 3, 4 and 5 for files that are no script, no trace and no directive,
