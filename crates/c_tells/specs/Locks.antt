@@ -12,7 +12,7 @@ use Rattle.c_values.specs.declared.event.PctEvent.{PctEvent}
 use Rattle.c_tells.specs.declared.locks.LocksTold.{LocksTold}
 use Rattle.c_tells.specs.declared.locks.LocksTold.TheVariants.{Order, Cycle}
 use Rattle.c_tells.specs.declared.locks.PctNesting.{PctNesting}
-use Rattle.c_tells.specs.Runs.{IsRunOf}
+use Rattle.c_tells.specs.Runs.{SayRun}
 
 -- the numbers of a nesting
 abbrev pub nesting_numbers : Nesting → PctNesting
@@ -33,7 +33,7 @@ pub record AreLocksOf (counts : PctDeal) (vars sems barriers : List ℤ) (steps 
     (told : LocksTold) : Type 0 where
   pub deal : Deal
   pub events : List Event
-  pub run : IsRunOf counts vars sems barriers steps deal events
+  pub run : SayRun counts vars sems barriers steps deal events
   pub report : LockReport
   pub chosen : IsChosen deal.mutexes events report
   pub told_is : told ≡ locks_of report

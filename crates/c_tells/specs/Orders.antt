@@ -18,7 +18,7 @@ pub record MayBound (threads steps points : ℕ) : Type 0 where
 -- the order that stands at the place, from 0, in the list of those that place the thread last;
 -- there
 -- is room for just the threads
-pub record IsOrderAt (threads low place room : ℕ) (order : List ℕ) : Type 0 where
+pub record IsOrderTold (threads low place room : ℕ) (order : List ℕ) : Type 0 where
   pub threads_few : AreFew threads
   pub low_thread : low < threads
   pub within : place < factorial (threads - 1)

@@ -7,7 +7,7 @@ use Rattle.hb_race.specs.Races.{AreRaces}
 use Rattle.c_values.specs.declared.deal.PctDeal.{PctDeal}
 use Rattle.c_values.specs.declared.event.PctEvent.{PctEvent}
 use Rattle.c_tells.specs.declared.races.PctRace.{PctRace}
-use Rattle.c_tells.specs.Runs.{IsRunOf}
+use Rattle.c_tells.specs.Runs.{SayRun}
 
 -- the numbers of a race
 abbrev pub race_numbers : Race → PctRace
@@ -18,7 +18,7 @@ pub record AreRacesOf (counts : PctDeal) (vars sems barriers : List ℤ) (steps 
     (told : List PctRace) : Type 0 where
   pub deal : Deal
   pub events : List Event
-  pub run : IsRunOf counts vars sems barriers steps deal events
+  pub run : SayRun counts vars sems barriers steps deal events
   pub races : List Race
   pub are : AreRaces events races
   pub told_are : told ≡ map race_numbers races

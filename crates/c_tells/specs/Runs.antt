@@ -9,7 +9,7 @@ use Rattle.c_values.specs.Deals.{SaysDeal}
 use Rattle.c_values.specs.Events.{AreSteps}
 
 -- the numbers say this deal and these steps, and the steps name only what the deal has
-pub record IsRunOf (counts : PctDeal) (vars sems barriers : List ℤ) (steps : List PctEvent)
+pub record SayRun (counts : PctDeal) (vars sems barriers : List ℤ) (steps : List PctEvent)
     (deal : Deal) (events : List Event) : Type 0 where
   pub says : SaysDeal counts vars sems barriers deal
   pub run : AreSteps steps events

@@ -3,7 +3,7 @@
 ghost use Rattle.std.specs.Prelude.{◌≡◌, ◌↔◌, ◌<◌, ◌*◌, ◌^◌, ℕ, length, IsTrue, MatchOption};
 ghost use Rattle.choices.specs.Orders.{low_orders};
 ghost use Rattle.c_values.specs.Told.{Answers};
-ghost use Rattle.c_tells.specs.Orders.{AreFew, MayBound, IsOrderAt};
+ghost use Rattle.c_tells.specs.Orders.{AreFew, MayBound, IsOrderTold};
 
 use c_values::Refused;
 use choices::{bound_of, low_order_at, order_count};
@@ -37,7 +37,7 @@ pub fn order_told(
     place: u32,
     room: usize,
 ) -> Result<OrderList, Refused>
-    ensures { Answers (IsOrderAt threads low place room) result }
+    ensures { Answers (IsOrderTold threads low place room) result }
 {
     if !are_few(threads) || low >= threads || place >= order_count(threads - 1) {
         return Err(Refused::Bad);

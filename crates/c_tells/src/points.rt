@@ -4,7 +4,7 @@ ghost use Rattle.std.specs.Prelude.{◌≡◌};
 ghost use Rattle.c_values.specs.Told.{Answers};
 ghost use Rattle.c_tells.specs.Points.{ArePointsOf};
 
-use c_values::{PctEvent, PctMoment, Refused, moments_of, steps_of};
+use c_values::{PctEvent, PctMoment, Refused, moments_said, steps_of};
 use choices::points_of;
 use pct_ask::{MAX_POINTS, MAX_STEPS, PointList};
 use std::alloc::Global;
@@ -24,6 +24,6 @@ pub fn points_told(
         return Err(Refused::Bad);
     }
     let events = steps_of(alloc, steps)?;
-    let said = moments_of(alloc, moments)?;
+    let said = moments_said(alloc, moments)?;
     Ok(points_of(alloc, events.as_slice(), most, said.as_slice())?)
 }

@@ -3,7 +3,7 @@
 ghost use Rattle.std.specs.Prelude.{◌↔◌, IsTrue, All};
 ghost use Rattle.pct_ask.specs.Objects.{sizes_of_deal, EventIsInRange};
 ghost use Rattle.c_values.specs.Told.{Answers};
-ghost use Rattle.c_tells.specs.Runs.{IsRunOf};
+ghost use Rattle.c_tells.specs.Runs.{SayRun};
 
 use c_values::{PctDeal, PctEvent, Refused, deal_said, steps_of};
 use pct_ask::{Deal, Event, EventList};
@@ -38,7 +38,7 @@ pub fn run_of(
     steps: &[PctEvent],
 ) -> Result<Run, Refused>
     ensures { Answers (λ run.
-        IsRunOf counts.now vars.now sems.now barriers.now steps.now run.deal run.events) result }
+        SayRun counts.now vars.now sems.now barriers.now steps.now run.deal run.events) result }
 {
     let deal = deal_said(alloc, counts, vars, sems, barriers)?;
     let events = steps_of(alloc, steps)?;

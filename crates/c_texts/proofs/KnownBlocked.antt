@@ -7,7 +7,8 @@ use Rattle.pct_ask.specs.VerdictText.{IsLine}
 use Rattle.pct_ask.specs.declared.verdict.Verdict.{Verdict}
 use Rattle.pct_ask.specs.declared.verdict.Verdict.TheVariants.{Stuck}
 use Rattle.report_text.specs.Report.{IsWritable}
-use Rattle.c_texts.specs.Known.{IsKnownPlace, AreKnownBlocked}
+use Rattle.trace_text.specs.Known.{IsKnownPlace}
+use Rattle.c_texts.specs.Known.{AreKnownBlocked}
 
 both_known : (threads : ℕ) (places : List (ℕ × ℕ))
     → All (λ thread. thread < threads) (map (λ (p : ℕ × ℕ). p.0) places)

@@ -1,15 +1,11 @@
 -- Verdicts that may be written (this project).
 use Rattle.std.specs.Prelude.{◌≡◌, ◌<◌, ℕ, List, Some, length, All}
 use Rattle.pct_ask.specs.NameLists.{NameLists}
-use Rattle.pct_ask.specs.VerdictText.{IsLine}
 use Rattle.pct_ask.specs.declared.verdict.Verdict.{Verdict}
 use Rattle.report_text.specs.Report.{IsWritable}
+use Rattle.trace_text.specs.Known.{IsKnownPlace}
 use Rattle.c_values.specs.declared.outcome.PctOutcome.{PctOutcome}
 use Rattle.c_values.specs.Outcomes.{verdict_said}
-
--- the thread is one of so many, and the line is a test's
-abbrev pub IsKnownPlace : ℕ → ℕ × ℕ → Type 0
-IsKnownPlace threads place = (place.0 < threads) × IsLine place.1
 
 -- somebody is blocked, and each is known
 abbrev pub AreKnownBlocked : ℕ → List (ℕ × ℕ) → Type 0

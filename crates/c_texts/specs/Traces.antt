@@ -1,10 +1,11 @@
 -- A trace as a text, from numbers (this project).
-use Rattle.std.specs.Prelude.{◌≡◌, ◌≤◌, ◌⊎◌, ℕ, List, Some, false, length, All}
+use Rattle.std.specs.Prelude.{◌≡◌, ◌≤◌, ℕ, List, Some, length, All}
 use Rattle.pct_ask.specs.NameLists.{NameLists}
 use Rattle.pct_ask.specs.TraceText.{TraceHead, trace_text}
 use Rattle.pct_ask.specs.declared.event.Event.{Event}
 use Rattle.pct_ask.specs.declared.verdict.Verdict.{Verdict}
-use Rattle.trace_text.specs.Lawful.{IsHead, NamesKnown, is_of_second}
+use Rattle.trace_text.specs.Known.{IsOfVersion}
+use Rattle.trace_text.specs.Lawful.{IsHead, NamesKnown}
 use Rattle.trace_text.specs.Trace.{head_of}
 use Rattle.trace_text.specs.declared.file.Header.{Header}
 use Rattle.c_values.specs.declared.event.PctEvent.{PctEvent}
@@ -12,30 +13,11 @@ use Rattle.c_values.specs.declared.outcome.PctOutcome.{PctOutcome}
 use Rattle.c_values.specs.Events.{AreSteps}
 use Rattle.c_values.specs.NamesText.{names_of_text}
 use Rattle.c_texts.specs.Known.{SaysKnown}
-use Rattle.pct_ask.specs.declared.limits.TheConstants.{MAX_POINTS}
-use Rattle.pct_ask.specs.Limits.{IsStepCount}
-
--- the head of these numbers
-abbrev pub head_by : ℕ → ℕ → List ℕ → List ℕ → TraceHead
-head_by version limit order points =
-    record { version = version; limit = limit; order = order; points = points }
-
--- all of a head but its order is that of a trace with so many threads
-pub record IsPlainHead (threads : ℕ) (head : TraceHead) : Type 0 where
-  pub version : (head.version ≡ 1) ⊎ (head.version ≡ 2)
-  pub whole : length head.order ≡ threads
-  pub few_points : length head.points ≤ MAX_POINTS
-  pub points : All IsStepCount head.points
-  pub limit : IsStepCount head.limit
 
 -- the head may be written under the names, and this is it as a value
 pub record IsHeadOf (names : NameLists) (head : TraceHead) (header : Header) : Type 0 where
   pub is : IsHead names head
   pub same : head_of header ≡ head
-
--- a trace of the version may tell the verdict
-abbrev pub IsOfVersion : ℕ → Verdict → Type 0
-IsOfVersion version verdict = (is_of_second verdict ≡ false) ⊎ (version ≡ 2)
 
 -- the numbers say these steps, at most so many, and they name only what there is; the test has a
 -- thread

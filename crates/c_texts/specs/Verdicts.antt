@@ -8,7 +8,7 @@ use Rattle.c_values.specs.NamesText.{names_of_text}
 use Rattle.c_texts.specs.Known.{SaysKnown}
 
 -- the text of the verdict that the numbers say, under the names that a text says
-pub record IsVerdictText (of_names : List ℕ) (numbers : PctOutcome) (text : List ℕ) : Type 0 where
+pub record SaysVerdictText (of_names : List ℕ) (numbers : PctOutcome) (text : List ℕ) : Type 0 where
   pub names : NameLists
   pub named : names_of_text of_names ≡ Some names
   pub verdict : Verdict

@@ -1,7 +1,6 @@
 //! A directive as a text, and read back.
 
-ghost use Rattle.std.specs.Prelude.{◌≡◌, ◌≤◌, ◌↔◌, IsTrue, All, length, map, take};
-ghost use Rattle.directive.specs.Directive.{IsMoment};
+ghost use Rattle.std.specs.Prelude.{◌≡◌, ◌≤◌, length, map, take};
 ghost use Rattle.directive.specs.Answers.{plain_directive};
 ghost use Rattle.c_values.specs.Told.{Answers};
 ghost use Rattle.c_values.specs.Moments.{moment_numbers};
@@ -10,10 +9,10 @@ ghost use Rattle.pct_ask.specs.declared.limits.TheConstants.{MAX_POINTS};
 
 use crate::known::known_verdict;
 use c_values::{
-    PctMoment, PctOutcome, Refused, moments_of, names_said, numbers_of_moment, numbers_of_verdict,
+    PctMoment, PctOutcome, Refused, moments_said, names_said, numbers_of_moment, numbers_of_verdict,
 };
-use directive::{Directive, write_directive};
-use pct_ask::{MAX_POINTS, MAX_STEPS, NameKind, Names, Sequence};
+use directive::{Directive, are_known_moments, write_directive};
+use pct_ask::{MAX_POINTS, NameKind, Names, Sequence};
 use policy_pick::{Moment, MomentList};
 use std::alloc::Global;
 
@@ -27,15 +26,6 @@ pub struct PctDirective {
     pub verdict: PctOutcome,
 }
 
-fn are_moments(names: &Names, moments: &[Moment]) -> bool
-    ensures { IsTrue result ↔ All (IsMoment names.now) moments.now }
-{
-    let threads = names.count(NameKind::Thread);
-    moments.iter().all(|moment| moment.thread < threads
-        && 1 <= moment.number
-        && moment.number <= MAX_STEPS)
-}
-
 /// The directive that the numbers say, where it may be written under the names.
 fn directive_of(alloc: Global, names: &Names, numbers: &PctDirective) -> Result<Directive, Refused>
     ensures { Answers (λ told. SaysDirective names.now numbers.now (plain_directive told)) result }
@@ -44,8 +34,8 @@ fn directive_of(alloc: Global, names: &Names, numbers: &PctDirective) -> Result<
     if numbers.count > MAX_POINTS as u32 || numbers.low >= names.count(NameKind::Thread) {
         return Err(Refused::Bad);
     }
-    let moments = moments_of(alloc, &numbers.moments[..numbers.count as usize])?;
-    if !are_moments(names, moments.as_slice()) {
+    let moments = moments_said(alloc, &numbers.moments[..numbers.count as usize])?;
+    if !are_known_moments(names, moments.as_slice()) {
         return Err(Refused::Bad);
     }
     Ok(Directive {

@@ -5,16 +5,12 @@ ghost use Rattle.pct_ask.specs.Places.{places_from, known_lines};
 ghost use Rattle.report_text.specs.Report.{IsWritable};
 ghost use Rattle.c_values.specs.Outcomes.{verdict_said};
 ghost use Rattle.c_values.specs.Told.{Answers};
-ghost use Rattle.c_texts.specs.Known.{IsKnownPlace, AreKnownBlocked, SaysKnown, IsKnown};
+ghost use Rattle.trace_text.specs.Known.{IsKnownPlace};
+ghost use Rattle.c_texts.specs.Known.{AreKnownBlocked, SaysKnown, IsKnown};
 
-use c_values::{PctOutcome, Refused, verdict_of};
-use pct_ask::{MAX_LINES, MAX_THREADS, NameKind, Names, Verdict};
-
-fn is_known_place(threads: u32, thread: u32, line: u32) -> bool
-    ensures { IsTrue result ↔ IsKnownPlace threads (thread, line) }
-{
-    thread < threads && 1 <= line && line <= MAX_LINES
-}
+use c_values::{PctOutcome, Refused, verdict_said};
+use pct_ask::{MAX_THREADS, NameKind, Names, Verdict};
+use trace_text::is_known_place;
 
 /// Whether each thread whose bit is set has a name, and its line is a test's.
 fn are_known_places(threads: u32, bits: u64, lines: &[u32; MAX_THREADS]) -> bool
@@ -61,7 +57,7 @@ fn is_known(names: &Names, numbers: &PctOutcome, verdict: &Verdict) -> bool
 pub fn says_known(names: &Names, numbers: &PctOutcome) -> bool
     ensures { IsTrue result ↔ IsKnown names.now numbers.now }
 {
-    match verdict_of(numbers) {
+    match verdict_said(numbers) {
         Some(verdict) => is_known(names, numbers, &verdict),
         None => false,
     }
@@ -71,7 +67,7 @@ pub fn says_known(names: &Names, numbers: &PctOutcome) -> bool
 pub fn known_verdict(names: &Names, numbers: &PctOutcome) -> Result<Verdict, Refused>
     ensures { Answers (SaysKnown names.now numbers.now) result }
 {
-    match verdict_of(numbers) {
+    match verdict_said(numbers) {
         Some(verdict) if is_known(names, numbers, &verdict) => Ok(verdict),
         _ => Err(Refused::Bad),
     }

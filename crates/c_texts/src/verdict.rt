@@ -1,7 +1,7 @@
 //! A verdict as a text.
 
 ghost use Rattle.c_values.specs.Told.{Answers};
-ghost use Rattle.c_texts.specs.Verdicts.{IsVerdictText};
+ghost use Rattle.c_texts.specs.Verdicts.{SaysVerdictText};
 
 use crate::known::known_verdict;
 use c_values::{PctOutcome, Refused, names_said};
@@ -14,7 +14,7 @@ pub fn verdict_text_told(
     names: &[u8],
     verdict: &PctOutcome,
 ) -> Result<Sequence<u8>, Refused>
-    ensures { Answers (IsVerdictText names.now verdict.now) result }
+    ensures { Answers (SaysVerdictText names.now verdict.now) result }
 {
     let known = names_said(alloc, names)?;
     let said = known_verdict(&known, verdict)?;

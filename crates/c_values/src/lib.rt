@@ -5,7 +5,7 @@
 //! - Numbers say an ask, a step, a moment or a verdict, or nothing; an ask, a step, a moment or an
 //!   outcome is said by the numbers that are written of it: `ask_of`; `numbers_of_ask`
 //!   (`ask_said`); `event_of`; `events_of`; `steps_of`; `numbers_of_event` (`event_said`);
-//!   `moments_of`; `numbers_of_moment` (`moment_said`); `verdict_of` (`verdict_said`);
+//!   `moments_said`; `numbers_of_moment` (`moment_said`); `verdict_said` (`verdict_said`);
 //!   `numbers_of_verdict`; `numbers_of_outcome` (`outcome_numbers`); `rows_of`.
 //! - A deal has the counts and first values that the numbers say, and names those of a text's
 //!   lines; none exactly where some are out of range or may not stand beside the others: `deal_of`:
@@ -25,8 +25,8 @@ mod row;
 pub use ask::{PctAsk, ask_of, numbers_of_ask};
 pub use deal::{PctDeal, deal_of, deal_of_names, deal_said};
 pub use event::{PctEvent, event_of, events_of, numbers_of_event, steps_of};
-pub use moment::{PctMoment, moments_of, numbers_of_moment};
+pub use moment::{PctMoment, moments_said, numbers_of_moment};
 pub use names::{kind_of, names_of, names_said};
-pub use outcome::{PctOutcome, numbers_of_outcome, numbers_of_verdict, verdict_of};
+pub use outcome::{PctOutcome, numbers_of_outcome, numbers_of_verdict, verdict_said};
 pub use refused::Refused;
 pub use row::{PctRow, rows_of};

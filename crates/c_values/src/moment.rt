@@ -25,7 +25,7 @@ pub fn numbers_of_moment(moment: Moment) -> PctMoment
 }
 
 /// The moments that the numbers say.
-pub fn moments_of(alloc: Global, numbers: &[PctMoment]) -> Result<Vec<Moment>, NoMemory>
+pub fn moments_said(alloc: Global, numbers: &[PctMoment]) -> Result<Vec<Moment>, NoMemory>
     ensures { IfOk result (λ moments. moments.items ≡ map moment_said numbers.now) }
 {
     numbers

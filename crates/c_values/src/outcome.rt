@@ -136,7 +136,7 @@ fn blocked_of(threads: u64, lines: &[u32; MAX_THREADS]) -> Blocked
 }
 
 /// The verdict that the numbers say. `None` where they say none.
-pub fn verdict_of(numbers: &PctOutcome) -> Option<Verdict>
+pub fn verdict_said(numbers: &PctOutcome) -> Option<Verdict>
     ensures { result ≡ verdict_said numbers.now }
 {
     let (thread, line) = (numbers.thread, numbers.line);

@@ -5,7 +5,7 @@ ghost use Rattle.pct_ask.specs.declared.event.Row.{Row};
 ghost use Rattle.c_values.specs.Rows.{row_said, AreRows};
 ghost use Rattle.c_values.specs.Told.{all_said, Answers};
 
-use crate::outcome::{PctOutcome, verdict_of};
+use crate::outcome::{PctOutcome, verdict_said};
 use crate::refused::Refused;
 use pct_ask::{MAX_RUNS, Row, RowList, Verdict};
 use std::alloc::{AllocError as NoMemory, Global};
@@ -37,7 +37,7 @@ fn push_row(rows: &mut RowList, numbers: &PctRow) -> Result<bool, NoMemory>
         × (rows.new ≡ rows.old ++ row ∷ []))
         × (done ≡ false → row_said numbers.now ≡ None)) }
 {
-    match verdict_of(&numbers.verdict) {
+    match verdict_said(&numbers.verdict) {
         Some(verdict) => {
             rows.try_push(row_with(numbers, verdict))?;
             Ok(true)

@@ -9,7 +9,7 @@ use Rattle.pct_ask.specs.declared.verdict.Verdict.{Verdict}
 use Rattle.pct_ask.specs.declared.verdict.Verdict.TheVariants.{Stuck}
 use Rattle.pct_ask.specs.Places.{same_places}
 use Rattle.report_text.specs.Report.{IsWritable}
-use Rattle.kit_text.specs.Texts.{IsKnownPlace}
+use Rattle.trace_text.specs.Known.{IsKnownPlace}
 
 both_known : (threads : ℕ) (places : List (ℕ × ℕ))
     → All (λ thread. thread < threads) (map (λ (p : ℕ × ℕ). p.0) places)

@@ -1,38 +1,18 @@
 -- What can be written under the names of a test (this project).
-use Rattle.std.specs.Prelude.{◌≡◌, ◌≤◌, ◌<◌, ◌⊎◌, ℕ, List, false, length, All}
+use Rattle.std.specs.Prelude.{◌≡◌, ◌≤◌, ◌<◌, List, length, All}
 use Rattle.pct_ask.specs.NameLists.{NameLists}
 use Rattle.pct_ask.specs.Objects.{sizes_of_deal, sizes_of_names}
-use Rattle.pct_ask.specs.TraceText.{TraceHead}
-use Rattle.pct_ask.specs.VerdictText.{IsLine}
 use Rattle.pct_ask.specs.declared.deal.Deal.{Deal}
-use Rattle.pct_ask.specs.declared.verdict.Verdict.{Verdict}
 use Rattle.rank_now.specs.Order.{IsOrder}
 use Rattle.report_text.specs.Report.{IsWritable}
-use Rattle.trace_text.specs.Lawful.{NamesKnown, is_of_second}
+use Rattle.trace_text.specs.Known.{IsPlainHead, IsOfVersion}
+use Rattle.trace_text.specs.Lawful.{NamesKnown}
 use Rattle.trace_text.specs.Trace.{head_of}
 use Rattle.trace_text.specs.declared.file.TraceFile.{TraceFile}
 use Rattle.pct_ask.specs.declared.event.Row.{Row}
 use Rattle.directive.specs.Directive.{IsMoment}
 use Rattle.directive.specs.declared.directive.Directive.{Directive}
 use Rattle.failure_rank.specs.declared.group.Group.{Group}
-use Rattle.pct_ask.specs.declared.limits.TheConstants.{MAX_POINTS}
-use Rattle.pct_ask.specs.Limits.{IsStepCount}
-
--- the thread is one of so many, and the line is a test's
-abbrev pub IsKnownPlace : ℕ → ℕ × ℕ → Type 0
-IsKnownPlace threads place = (place.0 < threads) × IsLine place.1
-
--- a trace of the version may tell the verdict
-abbrev pub IsOfVersion : ℕ → Verdict → Type 0
-IsOfVersion version verdict = (is_of_second verdict ≡ false) ⊎ (version ≡ 2)
-
--- all of a head but its order is that of a trace with so many threads
-pub record IsPlainHead (threads : ℕ) (head : TraceHead) : Type 0 where
-  pub version : (head.version ≡ 1) ⊎ (head.version ≡ 2)
-  pub whole : length head.order ≡ threads
-  pub few_points : length head.points ≤ MAX_POINTS
-  pub points : All IsStepCount head.points
-  pub limit : IsStepCount head.limit
 
 -- The run can be written: each thread and object of the deal has a name and nothing else has, and
 -- the head, the steps and the verdict are those of a trace.
@@ -51,7 +31,7 @@ pub record IsReportable (names : NameLists) (rows : List Row) (groups : List Gro
   pub groups_known : All (λ group. IsWritable names group.verdict) groups
 
 -- the directive can be written: its threads have names, and its lines and numbers are a test's
-pub record IsTellable (names : NameLists) (directive : Directive) : Type 0 where
+pub record IsWritableDirective (names : NameLists) (directive : Directive) : Type 0 where
   pub low : directive.low < length names.threads
   pub events : All (IsMoment names) directive.events
   pub verdict : IsWritable names directive.verdict

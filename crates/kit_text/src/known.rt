@@ -1,20 +1,11 @@
 // Whether a run can be written under the names of a test.
 ghost use Rattle.std.specs.Prelude.{◌≡◌, ◌↔◌, IsTrue, All, length};
-ghost use Rattle.pct_ask.specs.NameLists.{NameLists};
 ghost use Rattle.pct_ask.specs.Objects.{sizes_of_deal, sizes_of_names};
-ghost use Rattle.trace_text.specs.Lawful.{HasObjects, NamesKnown};
+ghost use Rattle.trace_text.specs.Known.{IsKnownPlace};
 ghost use Rattle.report_text.specs.Report.{IsWritable};
-ghost use Rattle.kit_text.specs.Texts.{IsKnownPlace, IsOfVersion};
 
-use pct_ask::{
-    Ask, Blocked, Deal, Event, MAX_LINES, MAX_THREADS, MisuseKind, NameKind, Names, Verdict,
-};
-
-fn is_known_place(threads: u32, thread: u32, line: u32) -> bool
-    ensures { IsTrue result ↔ IsKnownPlace threads (thread, line) }
-{
-    thread < threads && 1 <= line && line <= MAX_LINES
-}
+use pct_ask::{Blocked, Deal, MAX_THREADS, NameKind, Names, Verdict};
+use trace_text::is_known_place;
 
 /// Whether each thread that can't go on has a name, and its line is a test's.
 fn are_known_places(threads: u32, blocked: &Blocked) -> bool
@@ -58,77 +49,4 @@ pub(crate) fn is_named(deal: &Deal, names: &Names) -> bool
         && deal.sems.len() == names.count(NameKind::Sem) as usize
         && deal.barriers.len() == names.count(NameKind::Barrier) as usize
         && deal.rwlocks == names.count(NameKind::RwLock)
-}
-
-/// Whether what an ask names is there, and its kind is one of the version.
-fn has_objects(version: u32, deal: &Deal, ask: &Ask) -> bool
-    ensures { (names : NameLists) → sizes_of_deal deal.now ≡ sizes_of_names names
-        → (IsTrue result ↔ HasObjects names version ask.now) }
-{
-    match *ask {
-        Ask::RdLock { .. }
-        | Ask::WrLock { .. }
-        | Ask::TryRdLock { .. }
-        | Ask::TryWrLock { .. }
-        | Ask::RwUnlock { .. } => deal.has_objects_of(ask) && version == 2,
-        Ask::Read { .. }
-        | Ask::Write { .. }
-        | Ask::Add { .. }
-        | Ask::Cas { .. }
-        | Ask::Lock { .. }
-        | Ask::TryLock { .. }
-        | Ask::Unlock { .. }
-        | Ask::Release { .. }
-        | Ask::Regain { .. }
-        | Ask::Signal { .. }
-        | Ask::Broadcast { .. }
-        | Ask::Down { .. }
-        | Ask::TryDown { .. }
-        | Ask::Up { .. }
-        | Ask::Arrive { .. }
-        | Ask::Leave { .. }
-        | Ask::Join { .. }
-        | Ask::Yield
-        | Ask::Check { .. }
-        | Ask::Fault { .. }
-        | Ask::Start { .. }
-        | Ask::Begin => deal.has_objects_of(ask),
-    }
-}
-
-fn is_known_step(version: u32, deal: &Deal, event: &Event) -> bool
-    ensures { (names : NameLists) → sizes_of_deal deal.now ≡ sizes_of_names names
-        → (IsTrue result ↔ NamesKnown names version event.now) }
-{
-    event.thread < deal.threads
-        && 1 <= event.line
-        && event.line <= MAX_LINES
-        && has_objects(version, deal, &event.ask)
-}
-
-/// Whether all steps can be written under the names of the deal.
-pub(crate) fn are_known_steps(version: u32, deal: &Deal, events: &[Event]) -> bool
-    ensures { (names : NameLists) → sizes_of_deal deal.now ≡ sizes_of_names names
-        → (IsTrue result ↔ All (NamesKnown names version) events.now) }
-{
-    events
-        .iter()
-        .all(|event| is_known_step(version, deal, event))
-}
-
-/// Whether a trace of the version may tell the verdict.
-pub(crate) fn is_of_version(version: u32, verdict: &Verdict) -> bool
-    ensures { IsTrue result ↔ IsOfVersion version verdict.now }
-{
-    match *verdict {
-        Verdict::Misuse { kind, .. } => match kind {
-            MisuseKind::TooManyReads => version == 2,
-            MisuseKind::NotOwner | MisuseKind::SemFull | MisuseKind::AlreadyStarted => true,
-        },
-        Verdict::Passed
-        | Verdict::Failed { .. }
-        | Verdict::Stuck { .. }
-        | Verdict::Fault { .. }
-        | Verdict::Cut => true,
-    }
 }

@@ -6,7 +6,7 @@
 //! - A trace and a report are written, without conditions, exactly where there are names and lines
 //!   for all of it, and are the texts that the program writes: `show_run`: `text`, `known`,
 //!   `unknown` (`IsShowable`); `show_report`: `text`, `known`, `unknown` (`IsReportable`);
-//!   `show_directive`: `text`, `known`, `unknown` (`IsTellable`). What `ShownThread`,
+//!   `show_directive`: `text`, `known`, `unknown` (`IsWritableDirective`). What `ShownThread`,
 //!   `ShownVerdict` and `ShownGroups` display no clause says.
 #![tactic(auto)]
 

@@ -4,17 +4,17 @@ ghost use Rattle.report_text.specs.Report.{IsWritable};
 ghost use Rattle.report_text.specs.Text.{text_of};
 ghost use Rattle.pct_ask.specs.TraceText.{trace_text};
 ghost use Rattle.trace_text.specs.Trace.{head_of};
-ghost use Rattle.kit_text.specs.Texts.{IsPlainHead, IsShowable, IsReportable};
-ghost use Rattle.pct_ask.specs.Limits.{IsStepCount};
+ghost use Rattle.trace_text.specs.Known.{IsPlainHead};
+ghost use Rattle.kit_text.specs.Texts.{IsShowable, IsReportable};
 
-use crate::known::{are_known_steps, is_known, is_named, is_of_version};
+use crate::known::{is_known, is_named};
 use failure_rank::{Group, Groups};
-use pct_ask::{Deal, MAX_POINTS, MAX_STEPS, Names, Row, RowList};
+use pct_ask::{Deal, Names, Row, RowList};
 use rank_now::is_order;
 use report_text::{Frame, text_report};
 use std::alloc::{AllocError as NoMemory, Global};
 use thiserror::Error;
-use trace_text::{Header, TraceFile, write_trace};
+use trace_text::{Header, TraceFile, are_known_steps, is_of_version, is_plain_head, write_trace};
 
 /// Why there is no text.
 #[derive(Clone, Copy, Debug, PartialEq, Eq, Error)]
@@ -38,24 +38,17 @@ impl From<NoMemory> for TextError {
     }
 }
 
-fn are_step_counts(points: &[u32]) -> bool
-    ensures { IsTrue result ↔ All IsStepCount points.now }
-{
-    points
-        .iter()
-        .all(|point| 1 <= *point && *point <= MAX_STEPS)
-}
-
 /// Whether all of a head but its order is that of a trace with so many threads.
-fn is_plain_head(threads: u32, header: &Header) -> bool
+fn has_plain_head(threads: u32, header: &Header) -> bool
     ensures { IsTrue result ↔ IsPlainHead threads (head_of header.now) }
 {
-    (header.version == 1 || header.version == 2)
-        && header.order.len() == threads as usize
-        && header.points.len() <= MAX_POINTS
-        && are_step_counts(header.points.as_slice())
-        && 1 <= header.limit
-        && header.limit <= MAX_STEPS
+    is_plain_head(
+        threads,
+        header.version,
+        header.limit,
+        header.order.as_slice(),
+        header.points.as_slice(),
+    )
 }
 
 /// The trace of a run, as `pct` writes it and reads it back.
@@ -73,7 +66,7 @@ pub fn show_run(
     let header = &file.header;
     let events = file.events.as_slice();
     let verdict = &file.verdict;
-    let is_plain = is_named(deal, names) && is_plain_head(deal.threads, header);
+    let is_plain = is_named(deal, names) && has_plain_head(deal.threads, header);
     if !is_plain || !is_order(header.order.as_slice()) {
         return Err(TextError::Unknown);
     }

@@ -33,3 +33,5 @@ pub mod TextSizes
 pub mod VerdictForms
 -- a verdict's text is read as the verdict, and nothing else is
 pub mod VerdictsRead
+-- each word of the asks of traces is its verb's alone, and what versions of traces have a verb
+pub mod TraceVerbs

@@ -5,6 +5,8 @@ pub mod Pieces
 pub mod Characters
 pub mod Tokens
 pub mod Words
+pub mod TraceVerbs
+pub mod StatementVerbs
 pub mod Rows
 pub mod NameLists
 pub mod Numbers

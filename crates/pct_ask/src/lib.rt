@@ -37,6 +37,12 @@
 //! - Each fault and each register has its word, and a word is read as what it stands for; words and
 //!   numbers are written behind a space: `fault_word`; `fault_kind`; `register_word`;
 //!   `register_of`; `write_spaced_word`: `written`; `write_spaced_number`.
+//! - The tables of verbs are as stated, and each verb is found by its word. Of the asks of traces
+//!   the word, the kinds of the operands and the first version: `Verb::signature`: `word`,
+//!   `operands`, `since`; `Verb::word`; `verb_in` (`row_of`). Of the statements, with or
+//!   without a register, the word, the kind of object and the first version: `OnVerb::row`: `word`,
+//!   `kind`, `since`; `OnVerb::of`; `IntoVerb::row`: `word`, `kind`, `since`; `IntoVerb::of`
+//!   (`on_row`, `into_row`).
 #![tactic(auto)]
 
 mod ask;
@@ -52,6 +58,8 @@ mod objects;
 mod pieces;
 mod sequence;
 mod spaced;
+mod statement_verbs;
+mod trace_verbs;
 mod verdict;
 mod verdict_text;
 mod verdict_words;
@@ -72,6 +80,8 @@ pub use number::{number_in, read_number, step_count, step_counts, write_number};
 pub use pieces::{cut_line, first_pieces, first_words};
 pub use sequence::{NumberList, OrderList, PointList, Sequence};
 pub use spaced::{name_at, write_spaced_number, write_spaced_word};
+pub use statement_verbs::{INTO_VERBS, IntoVerb, ON_VERBS, OnVerb, VerbRow};
+pub use trace_verbs::{OperandKind, Operands, Signature, Verb, verb_in};
 pub use verdict::{MisuseKind, Outcome, Verdict};
 pub use verdict_text::{VerdictRead, fault_word, read_verdict, write_verdict};
 pub use verdict_words::{fault_kind, line_number};

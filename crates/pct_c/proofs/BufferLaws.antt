@@ -4,11 +4,11 @@ use Rattle.std.specs.Prelude.{Result, Ok, Err, IfOk}
 use Rattle.c_values.specs.Told.{Answers}
 use Rattle.c_values.specs.declared.refused.Refused.{Refused}
 use Rattle.c_values.specs.declared.refused.Refused.TheVariants.{Bad, NoMemory}
-use Rattle.pct_c.specs.Buffers.{Puts, Fills, IsPut, IsFilled}
+use Rattle.pct_c.specs.Buffers.{Puts, Fills, IsPutInRoom, IsFilled}
 
 pub puts : {T : Type 0} (Is : List T → Type 0) (told : Result (List T) Refused)
     (status count : ℕ) (before after : List T) → Answers Is told
-    → IsPut told status count before after → Puts Is status count before after
+    → IsPutInRoom told status count before after → Puts Is status count before after
 puts Is (Ok list) status count before after is put = by put.1
   where
     by : ((status ≡ 0) × (length list ≤ length before)

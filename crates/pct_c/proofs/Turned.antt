@@ -12,8 +12,8 @@ use Rattle.turn_book.specs.declared.taken.Because.{Because}
 use Rattle.turn_book.specs.declared.taken.Because.TheVariants.{Away, Turn}
 use Rattle.turn_book.specs.Answers.{IsBecause}
 use Rattle.pct_c.specs.declared.turn.PctTurn.{PctTurn}
-use Rattle.pct_c.specs.Turns.{SaysChoice, MayPost, MayTake, HasTurn, Posts, Takes}
-use Rattle.pct_c.specs.Turns.{PostsAndTakes, Steps}
+use Rattle.pct_c.specs.Turns.{SaysChoice, MayPost, MayTake, HasTurn, Posts, TakesTurn}
+use Rattle.pct_c.specs.Turns.{PostsAndTakes, PostsAndSteps}
 
 -- an outcome that stands isn't none
 pub some-none : (o : Option Outcome) → IsSome o → o ≡ None → ⊥
@@ -103,7 +103,7 @@ posts-bad t line n r s is answer choice lawful none = record {
 }
 
 pub takes-over : (t : ℕ) (r : PctTurn) (s : BookState) → r.status ≡ 4 → r.answer ≡ pos 0
-    → SaysChoice s r → IsLawful s → IsSome s.outcome → Takes t r s s
+    → SaysChoice s r → IsLawful s → IsSome s.outcome → TakesTurn t r s s
 takes-over t r s is answer choice lawful some = record {
   done = λ z. absurd (omega (arith, is, z));
   ended = λ z. absurd (omega (arith, is, z));
@@ -117,7 +117,7 @@ takes-over t r s is answer choice lawful some = record {
 }
 
 pub takes-bad : (t : ℕ) (r : PctTurn) (s : BookState) → r.status ≡ 5 → r.answer ≡ pos 0
-    → SaysChoice s r → IsLawful s → (MayTake s t → ⊥) → Takes t r s s
+    → SaysChoice s r → IsLawful s → (MayTake s t → ⊥) → TakesTurn t r s s
 takes-bad t r s is answer choice lawful none = record {
   done = λ z. absurd (omega (arith, is, z));
   ended = λ z. absurd (omega (arith, is, z));
@@ -132,7 +132,7 @@ takes-bad t r s is answer choice lawful none = record {
 
 pub takes-not-yet : (t : ℕ) (r : PctTurn) (old new : BookState) → r.status ≡ 3
     → r.answer ≡ pos 0 → SaysChoice new r → IsLawful new → MayTake old t → old.outcome ≡ None
-    → (HasTurn old t → ⊥) → new ≡ old → Takes t r old new
+    → (HasTurn old t → ⊥) → new ≡ old → TakesTurn t r old new
 takes-not-yet t r old new is answer choice lawful may running none same = record {
   done = λ z. absurd (omega (arith, is, z));
   ended = λ z. absurd (omega (arith, is, z));
@@ -176,7 +176,7 @@ TellsEnd r new = ((r.status ≡ 0) × (new.outcome ≡ None)) ⊎ ((r.status ≡
 
 pub takes-taken : (t : ℕ) (r : PctTurn) (old new : BookState) → TellsEnd r new
     → SaysChoice new r → IsLawful new → HasTurn old t → IsAnswered old t r.answer new
-    → Takes t r old new
+    → TakesTurn t r old new
 takes-taken t r old new (inl running) choice lawful turn taken = record {
   done = λ z. (turn, taken, running.1);
   ended = λ z. absurd (let is = running.0 in omega (arith, is, z));
@@ -203,7 +203,7 @@ takes-taken t r old new (inr over) choice lawful turn taken = record {
 -- The post stands, and the thread may take its step, so it did.
 pub steps-taken : (t line : ℕ) (n : PctAsk) (p r : PctTurn) (old between new : BookState)
     → Posts t line n p old between → p.status ≡ 0 → HasTurn between t → MayTake between t
-    → Takes t r between new → Steps t line n r old new
+    → TakesTurn t r between new → PostsAndSteps t line n r old new
 steps-taken t line n p r old between new posts is turn may takes = record {
   done = λ z. (whole, (takes.done z).2);
   ended = λ z. (whole, (takes.ended z).2);
@@ -267,7 +267,7 @@ steps-taken t line n p r old between new posts is turn may takes = record {
 -- The post stands, and the thread may not take its step.
 pub steps-posted : (t line : ℕ) (n : PctAsk) (p r : PctTurn) (old new : BookState)
     → Posts t line n p old new → p.status ≡ 0 → r.status ≡ 2 → r.answer ≡ pos 0 → SaysChoice new r
-    → (HasTurn new t × MayTake new t → ⊥) → Steps t line n r old new
+    → (HasTurn new t × MayTake new t → ⊥) → PostsAndSteps t line n r old new
 steps-posted t line n p r old new posts is two answer choice none = record {
   done = λ z. absurd (omega (arith, two, z));
   ended = λ z. absurd (omega (arith, two, z));
@@ -284,7 +284,7 @@ steps-posted t line n p r old new posts is two answer choice none = record {
 
 -- No post stands.
 pub steps-refused : (t line : ℕ) (n : PctAsk) (r : PctTurn) (old new : BookState)
-    → Posts t line n r old new → r.status ≢ 0 → Steps t line n r old new
+    → Posts t line n r old new → r.status ≢ 0 → PostsAndSteps t line n r old new
 steps-refused t line n r old new posts other = record {
   done = λ z. absurd (other z);
   ended = λ z. absurd (not z posts.statuses);

@@ -34,13 +34,13 @@ pub record Fills {T : Type 0} (Is : List T → Type 0) (status : ℕ) (before af
   pub unwritten : status ≢ 0 → after ≡ before
 
 -- what became of a list that was told, or of a refusal
-abbrev pub IsPut : {T : Type 0} → Result (List T) Refused → ℕ → ℕ → List T → List T → Type 0
-IsPut {T = T} (Ok list) status count before after =
+abbrev pub IsPutInRoom : {T : Type 0} → Result (List T) Refused → ℕ → ℕ → List T → List T → Type 0
+IsPutInRoom {T = T} (Ok list) status count before after =
     (count ≡ length list)
     × (((status ≡ 0) × (length list ≤ length before)
     × (after ≡ list ++ drop (length list) before))
     ⊎ ((status ≡ 8) × (length before < length list) × (after ≡ before)))
-IsPut (Err why) status count before after =
+IsPutInRoom (Err why) status count before after =
     (status ≡ refusal_status why) × (count ≡ 0) × (after ≡ before)
 
 abbrev pub IsFilled : {T : Type 0} → Result (List T) Refused → ℕ → List T → List T → Type 0

@@ -6,7 +6,7 @@ use Rattle.c_tells.specs.declared.locks.LocksTold.{LocksTold}
 use Rattle.c_tells.specs.declared.locks.LocksTold.TheVariants.{Order, Cycle}
 use Rattle.c_tells.specs.declared.locks.PctNesting.{PctNesting}
 use Rattle.c_tells.specs.Orders.{AreFew, MayBound}
-use Rattle.pct_c.specs.Buffers.{Puts, IsPut, refusal_status}
+use Rattle.pct_c.specs.Buffers.{Puts, IsPutInRoom, refusal_status}
 use Rattle.pct_c.specs.declared.status.PctCount.{PctCount}
 use Rattle.pct_c.specs.declared.tells.PctBound.{PctBound}
 use Rattle.pct_c.specs.declared.tells.PctLocks.{PctLocks}
@@ -20,7 +20,7 @@ pub record CountsOrders (threads : ℕ) (counted : PctCount) : Type 0 where
   pub statuses : (counted.status ≡ 0) ⊎ (counted.status ≡ 5)
 
 -- done: the bound is threads * steps^points, in two halves; bad where a number is out of range
-pub record TellsBound (threads steps points : ℕ) (bound : PctBound) : Type 0 where
+pub record SaysBound (threads steps points : ℕ) (bound : PctBound) : Type 0 where
   pub done : bound.status ≡ 0 → MayBound threads steps points
       × (bound.low + 2 ^ 64 * bound.high ≡ threads * steps ^ points)
   pub bad : bound.status ≡ 5
@@ -46,10 +46,10 @@ pub record TellsLocks (Is : LocksTold → Type 0) (locks : PctLocks) (old_order 
 abbrev pub IsLocksPut : Result LocksTold Refused → PctLocks → List ℕ → List ℕ → List PctNesting
     → List PctNesting → Type 0
 IsLocksPut (Ok (Order list)) locks old_order new_order old_cycle new_cycle =
-    (locks.kind ≡ 1) × IsPut (Ok list) locks.status locks.count old_order new_order
+    (locks.kind ≡ 1) × IsPutInRoom (Ok list) locks.status locks.count old_order new_order
     × (new_cycle ≡ old_cycle)
 IsLocksPut (Ok (Cycle list)) locks old_order new_order old_cycle new_cycle =
-    (locks.kind ≡ 2) × IsPut (Ok list) locks.status locks.count old_cycle new_cycle
+    (locks.kind ≡ 2) × IsPutInRoom (Ok list) locks.status locks.count old_cycle new_cycle
     × (new_order ≡ old_order)
 IsLocksPut (Err why) locks old_order new_order old_cycle new_cycle =
     (locks.kind ≡ 0) × (locks.status ≡ refusal_status why) × (locks.count ≡ 0)

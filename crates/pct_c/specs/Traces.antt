@@ -105,6 +105,6 @@ pub record TellsTraceSteps (file : TraceFile) (first status : ℕ) (before after
   pub unwritten : status ≢ 0 → after ≡ before
 
 -- the numbers are those of its verdict
-pub record TellsVerdict (file : TraceFile) (status : ℕ) (numbers : PctOutcome) : Type 0 where
+pub record SaysFileVerdict (file : TraceFile) (status : ℕ) (numbers : PctOutcome) : Type 0 where
   pub done : status ≡ 0
   pub verdict : numbers ≡ outcome_numbers (Ends file.verdict)

@@ -55,7 +55,7 @@ pub record Posts (t line : ℕ) (numbers : PctAsk) (turn : PctTurn) (old new : B
 -- A thread takes its step. Done or ended where it is its turn, and ended where that ends the run;
 -- not
 -- yet where the turn is another's; over where the run was over; else bad.
-pub record Takes (t : ℕ) (turn : PctTurn) (old new : BookState) : Type 0 where
+pub record TakesTurn (t : ℕ) (turn : PctTurn) (old new : BookState) : Type 0 where
   pub done : turn.status ≡ 0
       → HasTurn old t × IsAnswered old t turn.answer new × (new.outcome ≡ None)
   pub ended : turn.status ≡ 1
@@ -82,7 +82,7 @@ pub record PostsAndTakes (t line : ℕ) (numbers : PctAsk) (turn : PctTurn) (old
 
 -- A thread posts, and takes its step where it is its turn then: done or ended. Posted where it
 -- isn't.
-pub record Steps (t line : ℕ) (numbers : PctAsk) (turn : PctTurn) (old new : BookState)
+pub record PostsAndSteps (t line : ℕ) (numbers : PctAsk) (turn : PctTurn) (old new : BookState)
     : Type 0 where
   pub done : turn.status ≡ 0
       → PostsAndTakes t line numbers turn old new × (new.outcome ≡ None)

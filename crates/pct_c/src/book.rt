@@ -6,7 +6,7 @@ ghost use Rattle.pct_ask.specs.declared.event.Event.{Event};
 ghost use Rattle.pct_ask.specs.declared.event.Standing.{Standing};
 ghost use Rattle.pct_ask.specs.declared.ask.Post.{Post};
 ghost use Rattle.pct_ask.specs.Objects.{sizes_of_deal, PostIsInRange};
-ghost use Rattle.policy_pick.specs.Plan.{ByPoints, ByEvents, ByList};
+ghost use Rattle.policy_pick.specs.Plan.{ByPoints, ByMoments, ByList};
 ghost use Rattle.policy_pick.specs.declared.chance.Pick.{Pick};
 ghost use Rattle.rank_now.specs.Order.{IsFirstWrong};
 ghost use Rattle.turn_book.specs.Told.{new_book, standing_of, choice_of, IsLawful};
@@ -64,7 +64,7 @@ impl Book {
         requires few_moments { length moments.now ≤ MAX_POINTS }
         requires threads { length order.now ≡ deal.threads }
         ensures made { IfOk result (λ book.
-            state_of book ≡ new_book deal limit (ByEvents order.now moments.now)) }
+            state_of book ≡ new_book deal limit (ByMoments order.now moments.now)) }
         ensures lawful { IfOk result (λ book. IsLawful (state_of book)) }
         ensures not_an_order { (at : ℕ)
             → (result ≡ Err (RankError.NotAnOrder at)) → IsFirstWrong order.now at }

@@ -3,7 +3,7 @@
 ghost use Rattle.std.specs.Prelude.{◌≡◌, ◌≢◌, ◌⊎◌, ◌↔◌, ℕ, Ok, Err, Some, None, IfOk, IsTrue};
 ghost use Rattle.std.specs.Prelude.{MatchOption, length, map};
 ghost use Rattle.rank_now.specs.declared.order.RankError.{RankError};
-ghost use Rattle.policy_pick.specs.Plan.{ByPoints, ByEvents, ByList};
+ghost use Rattle.policy_pick.specs.Plan.{ByPoints, ByMoments, ByList};
 ghost use Rattle.c_values.specs.Moments.{moment_said};
 ghost use Rattle.pct_c.specs.declared.book.Book.{Book};
 ghost use Rattle.pct_c.specs.declared.kept.Kept.{Kept};
@@ -13,7 +13,7 @@ use crate::book::Book;
 use crate::handle::PctBook;
 use crate::kept::Kept;
 use crate::status::{BAD, DONE, NO_MEMORY};
-use c_values::{PctDeal, PctMoment, deal_of, moments_of};
+use c_values::{PctDeal, PctMoment, deal_of, moments_said};
 use pct_ask::{MAX_POINTS, MAX_STEPS};
 use rank_now::RankError;
 use std::alloc::{AllocError as NoMemory, Global};
@@ -124,7 +124,7 @@ fn made_by_moments(
     ensures { IfOk result (λ made. MatchOption made
         (¬ MayOrder counts.now vars.now sems.now barriers.now order.now (length moments.now) limit)
         (IsMade counts.now vars.now sems.now barriers.now limit
-        (ByEvents order.now (map moment_said moments.now)))) }
+        (ByMoments order.now (map moment_said moments.now)))) }
 {
     if !is_limit(limit) || moments.len() > MAX_POINTS {
         return Ok(None);
@@ -134,7 +134,7 @@ fn made_by_moments(
             if order.len() != deal.threads as usize {
                 return Ok(None);
             }
-            let own = moments_of(alloc, moments)?;
+            let own = moments_said(alloc, moments)?;
             let made = Book::by_moments(alloc, deal, order, own.as_slice(), limit);
             of_order(made)
         }
@@ -159,7 +159,7 @@ pub extern "C" fn pct_book_by_moments(
         (MayOrder deal.now variables.now semaphores.now barriers.now order.now
         (length moments.now) limit)
         (IsMade deal.now variables.now semaphores.now barriers.now limit
-        (ByEvents order.now (map moment_said moments.now)))
+        (ByMoments order.now (map moment_said moments.now)))
         result book.old.held.value book.new.held.value }
 {
     let made = made_by_moments(

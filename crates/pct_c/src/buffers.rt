@@ -1,7 +1,7 @@
 //! Lists that are put into the caller's buffers.
 
 ghost use Rattle.std.specs.Prelude.{◌≡◌, ◌≤◌, ◌<◌, ◌++◌, length, drop, IfOk};
-ghost use Rattle.pct_c.specs.Buffers.{IsPut, IsFilled, refusal_status};
+ghost use Rattle.pct_c.specs.Buffers.{IsPutInRoom, IsFilled, refusal_status};
 
 use crate::status::{BAD, DONE, NO_MEMORY, NO_ROOM, PctCount};
 use c_values::Refused;
@@ -38,7 +38,7 @@ fn put_front<T: Copy>(list: &[T], buffer: &mut [T])
 
 /// Puts what is told at the front of a buffer, where there is room for it.
 pub fn put<T: Copy + Drop>(told: Result<Sequence<T>, Refused>, buffer: &mut [T]) -> PctCount
-    ensures { IsPut told result.status result.count buffer.old buffer.new }
+    ensures { IsPutInRoom told result.status result.count buffer.old buffer.new }
 {
     match told {
         Ok(list) => {

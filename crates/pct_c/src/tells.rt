@@ -4,11 +4,11 @@ ghost use Rattle.std.specs.Prelude.{◌≡◌, ◌≢◌, ◌+◌, ◌*◌, ◌^
 ghost use Rattle.c_tells.specs.Groups.{AreGroupsOf};
 ghost use Rattle.c_tells.specs.Locks.{AreLocksOf};
 ghost use Rattle.c_tells.specs.Moments.{AreMomentsOf};
-ghost use Rattle.c_tells.specs.Orders.{IsOrderAt};
+ghost use Rattle.c_tells.specs.Orders.{IsOrderTold};
 ghost use Rattle.c_tells.specs.Points.{ArePointsOf};
 ghost use Rattle.c_tells.specs.Races.{AreRacesOf};
 ghost use Rattle.pct_c.specs.Buffers.{Puts, Fills};
-ghost use Rattle.pct_c.specs.Tells.{CountsOrders, TellsBound, TellsLocks, IsLocksPut};
+ghost use Rattle.pct_c.specs.Tells.{CountsOrders, SaysBound, TellsLocks, IsLocksPut};
 
 use crate::buffers::{counted, fill, put, refusal};
 use crate::status::{BAD, DONE, PctCount};
@@ -86,7 +86,7 @@ pub extern "C" fn pct_tell_order(
     place: u32,
     order: &mut [u32],
 ) -> u32
-    ensures { Fills (IsOrderAt threads low place (length order.old)) result order.old order.new }
+    ensures { Fills (IsOrderTold threads low place (length order.old)) result order.old order.new }
 {
     let told = order_told(alloc, threads, low, place, order.len());
     fill(told, order)
@@ -97,7 +97,7 @@ const TWO_TO_64: u128 = 18_446_744_073_709_551_616;
 /// In how many choices a certified directive gives its verdict at least once.
 #[unsafe(no_mangle)]
 pub extern "C" fn pct_tell_bound(threads: u32, steps: u32, points: u32) -> PctBound
-    ensures { TellsBound threads steps points result }
+    ensures { SaysBound threads steps points result }
 {
     match bound_told(threads, steps, points) {
         Some(bound) => PctBound {

@@ -2,8 +2,9 @@
 
 ghost use Rattle.c_texts.specs.Directives.{IsDirectiveText};
 ghost use Rattle.c_texts.specs.Reports.{IsReportText, IsReportJson};
-ghost use Rattle.c_texts.specs.Traces.{head_by, IsTraceText};
-ghost use Rattle.c_texts.specs.Verdicts.{IsVerdictText};
+ghost use Rattle.trace_text.specs.Known.{head_by};
+ghost use Rattle.c_texts.specs.Traces.{IsTraceText};
+ghost use Rattle.c_texts.specs.Verdicts.{SaysVerdictText};
 ghost use Rattle.pct_c.specs.Buffers.{Puts};
 
 use crate::buffers::put;
@@ -43,7 +44,7 @@ pub extern "C" fn pct_text_verdict(
     verdict: &PctOutcome,
     text: &mut [u8],
 ) -> PctCount
-    ensures { Puts (IsVerdictText names.now verdict.now) result.status result.count
+    ensures { Puts (SaysVerdictText names.now verdict.now) result.status result.count
         text.old text.new }
 {
     let told = verdict_text_told(alloc, names, verdict);

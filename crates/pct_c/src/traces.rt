@@ -3,7 +3,7 @@
 ghost use Rattle.std.specs.Prelude.{◌≡◌, ◌≢◌, ◌⊎◌, ℕ, Some, None};
 ghost use Rattle.pct_c.specs.declared.kept.Kept.{Kept};
 ghost use Rattle.pct_c.specs.Traces.{ReadsTrace, AnswersRead, OnTrace, OnKeptTrace, TellsHead};
-ghost use Rattle.pct_c.specs.Traces.{TellsOrder, TellsTraceSteps, TellsVerdict, fault_number};
+ghost use Rattle.pct_c.specs.Traces.{TellsOrder, TellsTraceSteps, SaysFileVerdict, fault_number};
 
 use crate::kept::Kept;
 use crate::reading::write_steps;
@@ -257,7 +257,7 @@ pub extern "C" fn pct_text_trace_steps(
 }
 
 fn verdict_kept(kept: &Kept, verdict: &mut PctOutcome) -> u32
-    ensures told { OnKeptTrace (λ file. TellsVerdict file result verdict.new) result kept.now }
+    ensures told { OnKeptTrace (λ file. SaysFileVerdict file result verdict.new) result kept.now }
     ensures unwritten { result ≢ 0 → verdict.new ≡ verdict.old }
 {
     match kept {
@@ -276,7 +276,7 @@ pub extern "C" fn pct_text_trace_verdict(
     trace: &mut PctTrace,
     verdict: &mut PctOutcome,
 ) -> u32
-    ensures told { OnTrace (λ file. TellsVerdict file result verdict.new)
+    ensures told { OnTrace (λ file. SaysFileVerdict file result verdict.new)
         result trace.old.held.value }
     ensures unwritten { result ≢ 0 → verdict.new ≡ verdict.old }
     ensures stays { trace.new.held.value ≡ trace.old.held.value }

@@ -5,8 +5,8 @@ ghost use Rattle.turn_book.specs.Told.{IsLawful};
 ghost use Rattle.pct_ask.specs.declared.ask.Ask.{Ask};
 ghost use Rattle.pct_ask.specs.Objects.{sizes_of_deal, PostIsInRange};
 ghost use Rattle.pct_c.specs.Books.{state_of, OnKept, OnHeld};
-ghost use Rattle.pct_c.specs.Turns.{MayPost, MayTake, HasTurn, SaysChoice, Posts, Takes};
-ghost use Rattle.pct_c.specs.Turns.{Steps, TellsTurn};
+ghost use Rattle.pct_c.specs.Turns.{MayPost, MayTake, HasTurn, SaysChoice, Posts, TakesTurn};
+ghost use Rattle.pct_c.specs.Turns.{PostsAndSteps, TellsTurn};
 
 use crate::book::Book;
 use crate::handle::PctBook;
@@ -119,7 +119,7 @@ fn turn_taken(book: &Book, answer: i64) -> PctTurn
 }
 
 fn take_on(book: &mut Book, thread: u32) -> PctTurn
-    ensures { Takes thread result (state_of book.old) (state_of book.new) }
+    ensures { TakesTurn thread result (state_of book.old) (state_of book.new) }
 {
     if book.is_over() {
         return turn_on(book, OVER, 0);
@@ -135,7 +135,7 @@ fn take_on(book: &mut Book, thread: u32) -> PctTurn
 }
 
 fn take_kept(kept: &mut Kept, thread: u32) -> PctTurn
-    ensures { OnKept (Takes thread result) result.status kept.old kept.new }
+    ensures { OnKept (TakesTurn thread result) result.status kept.old kept.new }
 {
     match kept {
         Kept::Book(book) => take_on(book, thread),
@@ -146,7 +146,7 @@ fn take_kept(kept: &mut Kept, thread: u32) -> PctTurn
 /// A thread that has posted takes its step where the turn is its own.
 #[unsafe(no_mangle)]
 pub extern "C" fn pct_book_take(alloc: Global, book: &mut PctBook, thread: u32) -> PctTurn
-    ensures { OnHeld (Takes thread result) result.status
+    ensures { OnHeld (TakesTurn thread result) result.status
         book.old.held.value book.new.held.value }
 {
     match mem::replace(book, PctBook::empty(alloc)).into_box() {
@@ -178,7 +178,7 @@ fn may_step(book: &Book, thread: u32) -> bool
 }
 
 fn step_on(book: &mut Book, thread: u32, line: u32, numbers: &PctAsk) -> PctTurn
-    ensures { Steps thread line numbers.now result (state_of book.old) (state_of book.new) }
+    ensures { PostsAndSteps thread line numbers.now result (state_of book.old) (state_of book.new) }
 {
     let posted = post_on(book, thread, line, numbers);
     if posted.status != DONE {
@@ -192,7 +192,8 @@ fn step_on(book: &mut Book, thread: u32, line: u32, numbers: &PctAsk) -> PctTurn
 }
 
 fn step_kept(kept: &mut Kept, thread: u32, line: u32, numbers: &PctAsk) -> PctTurn
-    ensures { OnKept (Steps thread line numbers.now result) result.status kept.old kept.new }
+    ensures { OnKept (PostsAndSteps thread line numbers.now result)
+        result.status kept.old kept.new }
 {
     match kept {
         Kept::Book(book) => step_on(book, thread, line, numbers),
@@ -209,7 +210,7 @@ pub extern "C" fn pct_book_step(
     line: u32,
     ask: &PctAsk,
 ) -> PctTurn
-    ensures { OnHeld (Steps thread line ask.now result) result.status
+    ensures { OnHeld (PostsAndSteps thread line ask.now result) result.status
         book.old.held.value book.new.held.value }
 {
     match mem::replace(book, PctBook::empty(alloc)).into_box() {

@@ -21,7 +21,7 @@ use Rattle.script_tree.specs.Lines.{version_of, begins_with, declared_name, name
 use Rattle.script_tree.specs.Lines.{threads_begun}
 use Rattle.script_tree.specs.Faults as faults
 use Rattle.script_tree.specs.Faults.{Place, SoFar, tokens_before, is_declared}
-use Rattle.script_parse.specs.Part.{Open, Part}
+use Rattle.script_parse.specs.Part.{Open, ReadPart}
 use Rattle.script_parse.specs.Part as parts
 use Rattle.script_parse.specs.Reading as reading
 use Rattle.script_parse.specs.Reading.{Finder, is_empty, is_in_if, so_far_in, is_known_name}
@@ -74,7 +74,7 @@ some_left names name =
     grind (arith, nat_tests)
 
 -- what is read with a line that has no fault stands for it too
-pub taken_stands : (version : ℕ) (part : Part) (find : Finder) (n : ℕ) (lines : Lines)
+pub taken_stands : (version : ℕ) (part : ReadPart) (find : Finder) (n : ℕ) (lines : Lines)
     → Stands part lines → (cut : TokenForm) (meant : MeantForm) → Means cut meant
     → IsFormOf version cut → faults.closes_nothing (so_far_in part) meant ≡ false
     → Stands (with_form part find n meant) (lines ++ tokens_of_form cut ∷ [])
@@ -158,7 +158,7 @@ same_names names lists h =
       h kinds.RwLock,
     ) refl
 
-pub same_so_far : (part : Part) (lines : Lines) → Stands part lines
+pub same_so_far : (part : ReadPart) (lines : Lines) → Stands part lines
     → faults.so_far lines ≡ so_far_in part
 same_so_far part lines s =
     let version : version_of lines ≡ part.version =
@@ -168,7 +168,7 @@ same_so_far part lines s =
     version (same_names part.names (λ kind. names_of kind lines) s.names) (depth_is part lines s)
     (s.innermost 0 ∙ at_zero part.open_blocks)
 
-module _ (part : Part) (place : Place) (s : Stands part (tokens_before place)) where
+module _ (part : ReadPart) (place : Place) (s : Stands part (tokens_before place)) where
   abbrev pub found : Finder
   found name = place_of name (threads_begun (place.before ++ place.line ∷ place.after))
 

@@ -6,19 +6,19 @@ use Rattle.std.proofs.lemmas.List.{append-nil}
 use Rattle.pct_ask.specs.Tokens.{Token, Word, Symbol}
 use Rattle.pct_ask.specs.declared.names.NameKind.{NameKind}
 use Rattle.pct_ask.specs.declared.names.NameKind.TheVariants as kinds
-use Rattle.script_tree.specs.Trees.{Statement, Statements, closed_at}
-use Rattle.script_tree.specs.declared.verb.OnVerb.TheVariants as on_verbs
-use Rattle.script_tree.specs.declared.verb.IntoVerb.TheVariants as into_verbs
-use Rattle.script_tree.specs.Forms as forms
+use Rattle.pct_ask.specs.declared.statement_verbs.OnVerb.TheVariants as on_verbs
+use Rattle.pct_ask.specs.declared.statement_verbs.IntoVerb.TheVariants as into_verbs
 use Rattle.pct_ask.specs.Words.{register_word}
-use Rattle.script_tree.specs.declared.verb.OnVerb.{OnVerb}
-use Rattle.script_tree.specs.declared.verb.IntoVerb.{IntoVerb}
+use Rattle.pct_ask.specs.declared.statement_verbs.OnVerb.{OnVerb}
+use Rattle.pct_ask.specs.declared.statement_verbs.IntoVerb.{IntoVerb}
+use Rattle.pct_ask.specs.StatementVerbs.{on_word, into_word}
+use Rattle.script_tree.specs.Trees.{Statement, Statements, closed_at}
+use Rattle.script_tree.specs.Forms as forms
 use Rattle.script_tree.specs.Forms.{TokenForm, MeantForm, Thread, On, Into, Write, Add, Cas, Wait}
-use Rattle.script_tree.specs.Forms.{Yield, Assert, Set, If, While, End, Else, on_word, into_word}
-use Rattle.script_tree.specs.Forms.{kind_word, has_value, is_plain, value_in, tokens_of_form}
-use Rattle.script_tree.specs.Forms.{IsFormOf, Means}
+use Rattle.script_tree.specs.Forms.{Yield, Assert, Set, If, While, End, Else, kind_word, has_value}
+use Rattle.script_tree.specs.Forms.{is_plain, value_in, tokens_of_form, IsFormOf, Means}
 use Rattle.script_tree.specs.Lines.{declared_value, values_of, just_thread}
-use Rattle.script_parse.specs.Part.{Open, Part}
+use Rattle.script_parse.specs.Part.{Open, ReadPart}
 use Rattle.script_parse.specs.Part as parts
 use Rattle.script_parse.specs.Words.{kind_in}
 use Rattle.script_parse.specs.Reading as reading
@@ -29,14 +29,14 @@ use Rattle.script_parse.proofs.DeclaredValues.{AreValues, no_value_more, values_
 use Rattle.script_parse.proofs.DeclaredValues.{threadless_at}
 
 -- what stays the same but for the blocks
-record KeepsDeclared (part next : Part) : Type 0 where
+record KeepsDeclared (part next : ReadPart) : Type 0 where
   version : next.version ≡ part.version
   vars : next.vars ≡ part.vars
   sems : next.sems ≡ part.sems
   barriers : next.barriers ≡ part.barriers
   threads : next.names.threads ≡ part.names.threads
 
-said_declared : (part : Part) (statement : Option Statement)
+said_declared : (part : ReadPart) (statement : Option Statement)
     → KeepsDeclared part (reading.part_with_statement part statement)
 said_declared part None = record {
   version = refl;
@@ -53,7 +53,7 @@ said_declared part (Some s) = record {
   threads = refl;
 }
 
-closed_declared : (part : Part) (blocks : List Open) (opening : parts.Opening) (body : Statements)
+closed_declared : (part : ReadPart) (blocks : List Open) (opening : parts.Opening) (body : Statements)
     → KeepsDeclared part (reading.closed_block (record part { open_blocks = blocks }) opening body)
 closed_declared part blocks (parts.Thread line) body = record {
   version = refl;
@@ -70,7 +70,7 @@ closed_declared part blocks opening body = record {
   threads = refl;
 }
 
-ended_declared : (part : Part) (blocks : List Open) (n : ℕ)
+ended_declared : (part : ReadPart) (blocks : List Open) (n : ℕ)
     → KeepsDeclared part (reading.with_end part blocks n)
 ended_declared part [] n = record {
   version = refl;
@@ -82,7 +82,7 @@ ended_declared part [] n = record {
 ended_declared part (block ∷ blocks) n =
     closed_declared part blocks block.opening (closed_at n block.done)
 
-turned_by_declared : (part : Part) (block : Open) (blocks : List Open) (n : ℕ)
+turned_by_declared : (part : ReadPart) (block : Open) (blocks : List Open) (n : ℕ)
     (opening : parts.Opening) → KeepsDeclared part (reading.turned_by part block blocks n opening)
 turned_by_declared part block blocks n (parts.Thread line) = record {
   version = refl;
@@ -99,7 +99,7 @@ turned_by_declared part block blocks n opening = record {
   threads = refl;
 }
 
-turned_declared : (part : Part) (blocks : List Open) (n : ℕ)
+turned_declared : (part : ReadPart) (blocks : List Open) (n : ℕ)
     → KeepsDeclared part (reading.with_else part blocks n)
 turned_declared part [] n = record {
   version = refl;
@@ -111,12 +111,12 @@ turned_declared part [] n = record {
 turned_declared part (block ∷ blocks) n = turned_by_declared part block blocks n block.opening
 
 -- what a line adds: first values, and a thread
-pub record Adds (part next : Part) (lines : List (List Token)) (line : List Token) : Type 0 where
+pub record Adds (part next : ReadPart) (lines : List (List Token)) (line : List Token) : Type 0 where
   pub version : next.version ≡ part.version
   pub values : AreValues next (lines ++ line ∷ [])
   pub thread : part.names.threads ++ filter_map just_thread (line ∷ []) ≡ next.names.threads
 
-quiet_adds : (part next : Part) (lines : List (List Token)) (word : List ℕ) (rest : List Token)
+quiet_adds : (part next : ReadPart) (lines : List (List Token)) (word : List ℕ) (rest : List Token)
     → kind_in word ≡ None → KeepsDeclared part next → AreValues part lines
     → Adds part next lines (Word word ∷ rest)
 quiet_adds part next lines word rest k d h = record {
@@ -137,7 +137,7 @@ pub into_none : (verb : IntoVerb) → kind_in (into_word verb) ≡ None
 into_none into_verbs.Read = refl
 into_none verb = refl
 
-plain_adds : (part : Part) (lines : List (List Token)) (kind : NameKind) (name : List ℕ)
+plain_adds : (part : ReadPart) (lines : List (List Token)) (kind : NameKind) (name : List ℕ)
     → is_plain kind ≡ true → AreValues part lines
     → Adds part (reading.with_declared part kind name) lines
     (Word (kind_word kind) ∷ Word name ∷ [])
@@ -176,7 +176,7 @@ some_value : (o : Option ℤ) → is_some o ≡ true → o ≡ Some (unwrap_or o
 some_value (Some value) h = refl
 some_value None h = absurd cc
 
-valued_adds : (part : Part) (lines : List (List Token)) (kind : NameKind) (name : List ℕ)
+valued_adds : (part : ReadPart) (lines : List (List Token)) (kind : NameKind) (name : List ℕ)
     (value : List Token) → has_value kind ≡ true → is_some (value_in kind value) ≡ true
     → AreValues part lines
     → Adds part (reading.with_first_value kind (unwrap_or (value_in kind value) (pos 0))
@@ -215,7 +215,7 @@ valued_adds part lines kinds.Barrier name value p s h = record {
 valued_adds part lines kind name value p s h = absurd cc
 
 -- what a line of any form adds
-pub form_adds : (version : ℕ) (part : Part) (find : Finder) (n : ℕ) (lines : List (List Token))
+pub form_adds : (version : ℕ) (part : ReadPart) (find : Finder) (n : ℕ) (lines : List (List Token))
     → AreValues part lines → (cut : TokenForm) (meant : MeantForm) → Means cut meant
     → IsFormOf version cut → Adds part (with_form part find n meant) lines (tokens_of_form cut)
 form_adds version part find n lines h =

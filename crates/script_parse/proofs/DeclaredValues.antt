@@ -9,7 +9,7 @@ use Rattle.pct_ask.specs.declared.names.NameKind.{NameKind}
 use Rattle.pct_ask.specs.declared.names.NameKind.TheVariants as kinds
 use Rattle.script_tree.specs.Forms.{kind_word}
 use Rattle.script_tree.specs.Lines.{declared_value, values_of, just_thread}
-use Rattle.script_parse.specs.Part.{Part}
+use Rattle.script_parse.specs.Part.{ReadPart}
 
 pub valueless_at : (word : List ℕ) (rest : List Token) (kind : NameKind)
     → bytes_eq word (kind_word kind) ≡ false → declared_value kind (Word word ∷ rest) ≡ None
@@ -31,13 +31,13 @@ pub values_push : (kind : NameKind) (lines : List (List Token)) (line : List Tok
 values_push kind lines line = filter_map-append (declared_value kind) lines (line ∷ [])
 
 -- the values of the declarations of lines
-pub record AreValues (part : Part) (lines : List (List Token)) : Type 0 where
+pub record AreValues (part : ReadPart) (lines : List (List Token)) : Type 0 where
   pub vars : values_of kinds.Var lines ≡ part.vars
   pub sems : values_of kinds.Sem lines ≡ part.sems
   pub barriers : values_of kinds.Barrier lines ≡ part.barriers
 
 -- a line without a first value
-pub no_value_more : (part next : Part) (lines : List (List Token)) (line : List Token)
+pub no_value_more : (part next : ReadPart) (lines : List (List Token)) (line : List Token)
     → ((kind : NameKind) → declared_value kind line ≡ None) → next.vars ≡ part.vars
     → next.sems ≡ part.sems → next.barriers ≡ part.barriers → AreValues part lines
     → AreValues next (lines ++ line ∷ [])
@@ -53,6 +53,6 @@ no_value_more part next lines line none v s b h = record {
       ∙ rw (none kinds.Barrier) (append-nil (values_of kinds.Barrier lines) ∙ h.barriers ∙ sym b);
 }
 
-pub blank_values : (part : Part) (lines : List (List Token)) → AreValues part lines
+pub blank_values : (part : ReadPart) (lines : List (List Token)) → AreValues part lines
     → AreValues part (lines ++ [] ∷ [])
 blank_values part lines h = no_value_more part part lines [] (λ kind. refl) refl refl refl h

@@ -7,13 +7,13 @@ use Rattle.script_tree.specs.Forms.{MeantForm, Valued}
 use Rattle.script_tree.specs.Ranges as ranges
 use Rattle.script_tree.specs.Ranges.{value_fits}
 use Rattle.script_tree.specs.Faults as faults
-use Rattle.script_parse.specs.Part.{Part}
+use Rattle.script_parse.specs.Part.{ReadPart}
 use Rattle.script_parse.specs.Lawful.{value_lawful}
 use Rattle.script_parse.specs.Reading.{Finder, so_far_in, is_known_name, form_fault}
 use Rattle.script_parse.proofs.Choices.{unchosen}
 
 -- a line of this form has no fault
-pub record NoFault (part : Part) (find : Finder) (tokens : List Token) (meant : MeantForm) : Type
+pub record NoFault (part : ReadPart) (find : Finder) (tokens : List Token) (meant : MeantForm) : Type
     0 where
   pub stands : faults.may_stand (so_far_in part) meant ≡ true
   pub known : faults.uses_unknown (is_known_name part.names find) meant ≡ false
@@ -22,7 +22,7 @@ pub record NoFault (part : Part) (find : Finder) (tokens : List Token) (meant : 
   pub closes : faults.closes_nothing (so_far_in part) meant ≡ false
   pub few : faults.is_too_many (so_far_in part) meant ≡ false
 
-pub no_fault_parts : (part : Part) (find : Finder) (last : Bool) (tokens : List Token)
+pub no_fault_parts : (part : ReadPart) (find : Finder) (last : Bool) (tokens : List Token)
     (meant : MeantForm) → form_fault part find last tokens meant ≡ None
     → NoFault part find tokens meant
 no_fault_parts part find last tokens meant e =

@@ -13,18 +13,19 @@ use Rattle.pct_ask.specs.Words.{is_name}
 use Rattle.pct_ask.specs.Tokens.{Token, Word, Number, Symbol}
 use Rattle.pct_ask.specs.declared.names.NameKind.{NameKind}
 use Rattle.pct_ask.specs.declared.names.NameKind.TheVariants as kinds
+use Rattle.pct_ask.specs.Words.{register_word}
+use Rattle.pct_ask.specs.declared.statement_verbs.TheConstants.{ON_VERBS, INTO_VERBS}
+use Rattle.pct_ask.specs.declared.statement_verbs.OnVerb.{OnVerb}
+use Rattle.pct_ask.specs.declared.statement_verbs.IntoVerb.{IntoVerb}
+use Rattle.pct_ask.specs.Words.{register_in}
+use Rattle.pct_ask.specs.StatementVerbs.{on_word, into_word, on_verb_in, into_verb_in, on_since}
+use Rattle.pct_ask.specs.StatementVerbs.{into_since}
 use Rattle.script_tree.specs.Trees.{Expression}
 use Rattle.script_tree.specs.Expressions.{IsExpression}
-use Rattle.pct_ask.specs.Words.{register_word}
-use Rattle.script_tree.specs.declared.verb.TheConstants.{ON_VERBS, INTO_VERBS}
-use Rattle.script_tree.specs.declared.verb.OnVerb.{OnVerb}
-use Rattle.script_tree.specs.declared.verb.IntoVerb.{IntoVerb}
 use Rattle.script_tree.specs.Forms.{TokenForm, MeantForm, Plain, Valued, Thread, On, Into, Write}
 use Rattle.script_tree.specs.Forms.{Add, Cas, Wait, Yield, Assert, Set, If, While, End, Else}
-use Rattle.script_tree.specs.Forms.{on_word, into_word, kind_word, on_verb_in, into_verb_in}
-use Rattle.script_tree.specs.Forms.{on_since, into_since, is_plain, has_value, kind_since}
-use Rattle.script_tree.specs.Forms.{tokens_of_form, Means, IsFormOf, IsForm}
-use Rattle.pct_ask.specs.Words.{register_in}
+use Rattle.script_tree.specs.Forms.{kind_word, is_plain, has_value, kind_since, tokens_of_form}
+use Rattle.script_tree.specs.Forms.{Means, IsFormOf, IsForm}
 use Rattle.script_parse.specs.Words.{kind_in}
 use Rattle.script_parse.specs.Machine.{expression_in}
 use Rattle.script_parse.specs.Saying.{lone_word, is_comma, parts_at, plain_form, lone_form}

@@ -8,29 +8,30 @@ use Rattle.std.specs.Str.{bytes_eq}
 use Rattle.std.proofs.lemmas.Bool.{le-leb, lt-ltb, or_parts}
 use Rattle.std.proofs.lemmas.List.Folds.{list_any-append}
 use Rattle.std.proofs.Math.Numerals.{one-add}
+use Rattle.std.specs.List.{prefix_len}
+use Rattle.std.proofs.Math.Seq.{take-append_seam, drop-append-add}
+use Rattle.std.proofs.Common.{length-append}
 use Rattle.pct_ask.specs.Words.{is_name}
 use Rattle.pct_ask.specs.Tokens.{Token, Symbol}
 use Rattle.pct_ask.specs.declared.names.NameKind.{NameKind}
 use Rattle.pct_ask.specs.declared.names.NameKind.TheVariants as kinds
+use Rattle.pct_ask.specs.declared.statement_verbs.OnVerb.{OnVerb}
+use Rattle.pct_ask.specs.declared.statement_verbs.OnVerb.TheVariants.{Lock}
+use Rattle.pct_ask.specs.declared.statement_verbs.IntoVerb.{IntoVerb}
+use Rattle.pct_ask.specs.declared.statement_verbs.IntoVerb.TheVariants.{Read}
+use Rattle.pct_ask.specs.StatementVerbs.{on_word, into_word, on_since, into_since, on_verb_in}
+use Rattle.pct_ask.specs.StatementVerbs.{into_verb_in}
 use Rattle.script_tree.specs.declared.expr.Op.{Op}
 use Rattle.script_tree.specs.declared.expr.Op.TheVariants as ops
 use Rattle.script_tree.specs.Trees.{Expression}
 use Rattle.script_tree.specs.Expressions.{IsSpelled, number, register, enclosed, minus, not, two}
 use Rattle.script_tree.specs.Expressions.{stronger, signs_of}
-use Rattle.script_tree.specs.declared.verb.OnVerb.{OnVerb}
-use Rattle.script_tree.specs.declared.verb.OnVerb.TheVariants.{Lock}
-use Rattle.script_tree.specs.declared.verb.IntoVerb.{IntoVerb}
-use Rattle.script_tree.specs.declared.verb.IntoVerb.TheVariants.{Read}
 use Rattle.script_tree.specs.Forms.{TokenForm, MeantForm, Plain, Valued, Thread, On, Into, Write}
 use Rattle.script_tree.specs.Forms.{Add, Cas, Wait, Yield, Assert, Set, If, While, End, Else}
-use Rattle.script_tree.specs.Forms.{on_word, into_word, kind_word, on_since, into_since, is_plain}
-use Rattle.script_tree.specs.Forms.{kind_since, tokens_of_form, IsForm, IsFormOf, Means, on_verb_in}
-use Rattle.script_tree.specs.Forms.{into_verb_in}
+use Rattle.script_tree.specs.Forms.{kind_word, is_plain, kind_since, tokens_of_form, IsForm}
+use Rattle.script_tree.specs.Forms.{IsFormOf, Means}
 use Rattle.script_parse.specs.Words.{kind_in}
 use Rattle.script_parse.specs.Saying.{is_comma, parts_at, lone_form, form_in}
-use Rattle.std.specs.List.{prefix_len}
-use Rattle.std.proofs.Math.Seq.{take-append_seam, drop-append-add}
-use Rattle.std.proofs.Common.{length-append}
 use Rattle.script_parse.proofs.Choices.{some}
 use Rattle.script_parse.proofs.FirstValues.{value_is_read}
 use Rattle.script_parse.proofs.ExpressionWhole.{expression_is_read, register_read}

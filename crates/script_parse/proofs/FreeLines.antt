@@ -11,7 +11,7 @@ use Rattle.script_tree.specs.Grammar.{Says}
 use Rattle.script_tree.specs.Faults as faults
 use Rattle.script_tree.specs.Faults.{SoFar}
 use Rattle.script_tree.specs.Ranges as ranges
-use Rattle.script_parse.specs.Part.{Part}
+use Rattle.script_parse.specs.Part.{ReadPart}
 use Rattle.script_parse.specs.Reading.{Finder, is_empty, so_far_in, form_fault, with_form}
 use Rattle.script_parse.specs.Reading.{tokens_taken}
 use Rattle.script_parse.specs.Saying.{form_in}
@@ -22,19 +22,19 @@ use Rattle.script_parse.proofs.Agreeing.{lacks_thread_same}
 use Rattle.script_parse.proofs.Runs.{IsFree}
 
 -- what was read is a whole script: no block is open, and there is a thread
-pub record IsWhole (part : Part) : Type 0 where
+pub record IsWhole (part : ReadPart) : Type 0 where
   pub closed : length part.open_blocks ≡ 0
   pub threads : is_empty part.names.threads ≡ false
 
 -- where the line is the last one, what is read with it is whole
-abbrev pub WholeAfter : Bool → Part → Type 0
+abbrev pub WholeAfter : Bool → ReadPart → Type 0
 WholeAfter last next = last ≡ true → IsWhole next
 
 last_none : (last found : Bool) → (last ≡ true → found ≡ false) → (last && found) ≡ false
 last_none true found f = f refl
 last_none false found f = refl
 
-module _ (version : ℕ) (part : Part) (find : Finder) (n : ℕ) (last : Bool)
+module _ (version : ℕ) (part : ReadPart) (find : Finder) (n : ℕ) (last : Bool)
     (lines : List (List Token)) (s : Stands part lines) (cut : TokenForm) (meant : MeantForm)
     (means : Means cut meant) (of : IsFormOf version cut) (free : IsFree part find meant)
     (whole : WholeAfter last (with_form part find n meant)) where
@@ -75,7 +75,7 @@ module _ (version : ℕ) (part : Part) (find : Finder) (n : ℕ) (last : Bool)
       subst (λ (ts : List Token). ranges.is_out_of_range ts meant ≡ false) spelled range in
       ap (λ (ts : List Token). form_fault part find last ts meant) spelled ∙ no_fault in_range
 
-module _ (part : Part) (find : Finder) (n : ℕ) (last : Bool) (lines : List (List Token))
+module _ (part : ReadPart) (find : Finder) (n : ℕ) (last : Bool) (lines : List (List Token))
     (s : Stands part lines) (text : List ℕ) (meant : MeantForm)
     (says : Says part.version text meant) (free : IsFree part find meant)
     (whole : WholeAfter last (with_form part find n meant)) where

@@ -16,7 +16,7 @@ use Rattle.pct_ask.proofs.laws.Names.{AreNames-push, is_name-first}
 use Rattle.script_tree.specs.Forms.{is_plain, has_value, kind_since}
 use Rattle.script_tree.specs.Fitting.{most_threads, rwlocks_fit, thread_fits}
 use Rattle.script_tree.specs.Grammar.{Line, declares, all_thread_lines}
-use Rattle.script_parse.specs.Part.{Open, Part}
+use Rattle.script_parse.specs.Part.{Open, ReadPart}
 use Rattle.script_parse.specs.Reading.{with_first_value, with_declared}
 use Rattle.script_parse.proofs.StatementFits.{with_threads}
 use Rattle.script_parse.proofs.OpenBlocks.{IsOpen}
@@ -27,7 +27,7 @@ open_names [] name = []
 open_names (block ∷ blocks) name = name ∷ []
 
 -- the values of the declarations, one for each
-pub record HaveValues (part : Part) : Type 0 where
+pub record HaveValues (part : ReadPart) : Type 0 where
   pub same_vars : length part.vars ≡ length part.names.vars
   pub same_sems : length part.sems ≡ length part.names.sems
   pub same_barriers : length part.barriers ≡ length part.names.barriers
@@ -35,14 +35,14 @@ pub record HaveValues (part : Part) : Type 0 where
   pub barrier_counts : All IsBarrierCount part.barriers
 
 -- the names are a script's
-pub record HaveNames (part : Part) : Type 0 where
+pub record HaveNames (part : ReadPart) : Type 0 where
   pub are_names : AreNames part.names
   pub lawful : (kind : NameKind) → list_all (is_name part.version) (list_of kind part.names) ≡ true
   pub few_threads : length part.names.threads ≤ most_threads part.version
   pub known_rwlocks : rwlocks_fit part.version part.names.rwlocks ≡ true
 
 -- the lines that say something are those of what was read; the threads of the whole text are these
-pub record HasRead (threads : List (List ℕ)) (part : Part) (lines : List Line) (n : ℕ) : Type
+pub record HasRead (threads : List (List ℕ)) (part : ReadPart) (lines : List Line) (n : ℕ) : Type
     0 where
   pub first_version : 1 ≤ part.version
   pub last_version : part.version ≤ 3
@@ -105,7 +105,7 @@ rwlock_known : (version : ℕ) (rwlocks : List (List ℕ)) → 3 ≤ version
 rwlock_known version rwlocks h = rw (le-leb 3 version h) refl
 
 -- one more name
-pub names_more : (part : Part) (kind : NameKind) (name : List ℕ) → HaveNames part
+pub names_more : (part : ReadPart) (kind : NameKind) (name : List ℕ) → HaveNames part
     → is_name part.version name ≡ true → is_among name (all_names part.names) ≡ false
     → length (list_of kind part.names) < 64 → kind_since kind ≤ part.version
     → (kind ≡ kinds.Thread → length part.names.threads < most_threads part.version)
@@ -134,7 +134,7 @@ names_more part kind name h l f r v t = record {
 
 -- ---- values
 
-pub plain_values : (part : Part) (kind : NameKind) (name : List ℕ) → is_plain kind ≡ true
+pub plain_values : (part : ReadPart) (kind : NameKind) (name : List ℕ) → is_plain kind ≡ true
     → HaveValues part → HaveValues (with_declared part kind name)
 plain_values part kinds.Mutex name p h = record {
   same_vars = h.same_vars;
@@ -159,7 +159,7 @@ plain_values part kinds.RwLock name p h = record {
 }
 plain_values part kind name p h = absurd cc
 
-pub thread_values : (part : Part) (name : List ℕ) → HaveValues part
+pub thread_values : (part : ReadPart) (name : List ℕ) → HaveValues part
     → HaveValues (with_declared part kinds.Thread name)
 thread_values part name h = record {
   same_vars = h.same_vars;
@@ -169,7 +169,7 @@ thread_values part name h = record {
   barrier_counts = h.barrier_counts;
 }
 
-pub valued_values : (part : Part) (kind : NameKind) (name : List ℕ) (value : ℤ)
+pub valued_values : (part : ReadPart) (kind : NameKind) (name : List ℕ) (value : ℤ)
     → has_value kind ≡ true → (kind ≡ kinds.Sem → IsSemValue value)
     → (kind ≡ kinds.Barrier → IsBarrierCount value) → HaveValues part
     → HaveValues (with_first_value kind value (with_declared part kind name))

@@ -11,16 +11,16 @@ use Rattle.pct_ask.specs.Tokens.{Token, Number}
 use Rattle.pct_ask.specs.NameLists.{with_name}
 use Rattle.pct_ask.specs.declared.names.NameKind.{NameKind}
 use Rattle.pct_ask.specs.declared.names.NameKind.TheVariants as kinds
+use Rattle.pct_ask.specs.StatementVerbs.{on_kind, into_kind}
 use Rattle.script_tree.specs.Trees.{Expression, Statement, closed_at}
 use Rattle.script_tree.specs.Trees as trees
 use Rattle.script_tree.specs.Forms.{TokenForm, MeantForm, Plain, Valued, Thread, On, Into, Write}
 use Rattle.script_tree.specs.Forms.{Add, Cas, Wait, Yield, Assert, Set, If, While, End, Else}
-use Rattle.script_tree.specs.Forms.{is_plain, has_value, value_in, kind_since, on_kind, into_kind}
-use Rattle.script_tree.specs.Forms.{IsFormOf, Means}
+use Rattle.script_tree.specs.Forms.{is_plain, has_value, value_in, kind_since, IsFormOf, Means}
 use Rattle.script_tree.specs.Ranges.{value_fits}
 use Rattle.script_tree.specs.Fitting.{line_fits, most_threads}
 use Rattle.script_tree.specs.Grammar.{Line}
-use Rattle.script_parse.specs.Part.{Open, Part}
+use Rattle.script_parse.specs.Part.{Open, ReadPart}
 use Rattle.script_parse.specs.Part as parts
 use Rattle.script_parse.specs.Reading as reading
 use Rattle.script_parse.specs.Reading.{Finder, is_empty, is_in_if, with_form, with_first_value}
@@ -82,7 +82,7 @@ some_open (x ∷ more) h = (x, more, refl)
 
 -- ---- one line more
 
-module _ (threads : List (List ℕ)) (part : Part) (lines : List Line) (n : ℕ) (last : Bool)
+module _ (threads : List (List ℕ)) (part : ReadPart) (lines : List Line) (n : ℕ) (last : Bool)
     (tokens : List Token) (h : HasRead threads part lines n) (on_line : line_fits (n + 1) ≡ true)
     (few_lines : n + 1 ≤ 4096) where
   abbrev find : Finder
@@ -133,7 +133,7 @@ module _ (threads : List (List ℕ)) (part : Part) (lines : List Line) (n : ℕ)
       not_thread : {A : Type 0} (kind : NameKind) → has_value kind ≡ true → kind ≡ kinds.Thread → A
       not_thread kind p e = clash (sym p ∙ ap has_value e)
 
-      same_names : (part next : Part) → HaveNames part → next.version ≡ part.version
+      same_names : (part next : ReadPart) → HaveNames part → next.version ≡ part.version
           → next.names ≡ part.names → HaveNames next
       same_names part next h v n = record {
         are_names = rw n h.are_names;
@@ -147,21 +147,21 @@ module _ (threads : List (List ℕ)) (part : Part) (lines : List Line) (n : ℕ)
           → HasRead threads (with_form part (finder threads) (n + 1) (Valued kind name value))
           (lines ++ (n + 1, Valued kind name value) ∷ []) (n + 1)
       by_kind kinds.Var p none names g =
-          let next : Part = with_first_value kinds.Var
+          let next : ReadPart = with_first_value kinds.Var
           (unwrap_or (value_in kinds.Var value) (pos 0)) (with_declared part kinds.Var name) in
           declared_has threads part next lines n (n + 1, Valued kinds.Var name value) h none refl
           (same_names (with_declared part kinds.Var name) next names refl refl)
           (valued_values part kinds.Var name _ refl (λ e. absurd cc) (λ e. absurd cc) h.values)
           none refl refl refl
       by_kind kinds.Sem p none names g =
-          let next : Part = with_first_value kinds.Sem
+          let next : ReadPart = with_first_value kinds.Sem
           (unwrap_or (value_in kinds.Sem value) (pos 0)) (with_declared part kinds.Sem name) in
           declared_has threads part next lines n (n + 1, Valued kinds.Sem name value) h none refl
           (same_names (with_declared part kinds.Sem name) next names refl refl)
           (valued_values part kinds.Sem name _ refl (λ e. sem_value value g) (λ e. absurd cc)
           h.values) none refl refl refl
       by_kind kinds.Barrier p none names g =
-          let next : Part = with_first_value kinds.Barrier
+          let next : ReadPart = with_first_value kinds.Barrier
           (unwrap_or (value_in kinds.Barrier value) (pos 0))
           (with_declared part kinds.Barrier name) in
           declared_has threads part next lines n (n + 1, Valued kinds.Barrier name value) h none

@@ -11,7 +11,7 @@ use Rattle.script_tree.specs.ScriptText.{Thread as ThreadTree}
 use Rattle.script_tree.specs.Forms.{Thread, End}
 use Rattle.script_tree.specs.Fitting.{line_fits, thread_fits}
 use Rattle.script_tree.specs.Grammar.{Line, declares, thread_lines, all_thread_lines}
-use Rattle.script_parse.specs.Part.{Open, Part}
+use Rattle.script_parse.specs.Part.{Open, ReadPart}
 use Rattle.script_parse.specs.Part as parts
 use Rattle.script_parse.specs.Reading as reading
 use Rattle.script_parse.specs.Reading.{with_declared}
@@ -44,7 +44,7 @@ thread_lines_push names (c ∷ cs) (t ∷ ts) name thread e =
 
 module _ (threads : List (List ℕ)) where
   -- a declaration, above the threads
-  pub declared_has : (part next : Part) (lines : List Line) (n : ℕ) (line : Line)
+  pub declared_has : (part next : ReadPart) (lines : List Line) (n : ℕ) (line : Line)
       → HasRead threads part lines n → part.names.threads ≡ [] → next.version ≡ part.version
       → HaveNames next → HaveValues next → next.names.threads ≡ [] → next.threads ≡ part.threads
       → next.open_blocks ≡ part.open_blocks → declares line.1 ≡ true
@@ -83,7 +83,7 @@ module _ (threads : List (List ℕ)) where
       }
 
   -- a thread, outside threads
-  pub thread_has : (part : Part) (lines : List Line) (n m : ℕ) (name : List ℕ)
+  pub thread_has : (part : ReadPart) (lines : List Line) (n m : ℕ) (name : List ℕ)
       → HasRead threads part lines n → part.open_blocks ≡ []
       → HaveNames (with_declared part kinds.Thread name) → line_fits m ≡ true
       → HasRead threads (reading.with_block (with_declared part kinds.Thread name) (parts.Thread m))
@@ -145,7 +145,7 @@ module _ (threads : List (List ℕ)) where
       }
 
   -- a line inside a thread that doesn't close it
-  pub inner_has : (part : Part) (blocks : List Open) (block next : Open) (outer more : List Open)
+  pub inner_has : (part : ReadPart) (blocks : List Open) (block next : Open) (outer more : List Open)
       (lines : List Line) (n m : ℕ) (line : Line) (h : HasRead threads part lines n)
       → part.open_blocks ≡ block ∷ outer → blocks ≡ next ∷ more
       → IsOpen part.version (with_threads threads part.names) blocks h.current (h.body ++ line ∷ [])
@@ -188,7 +188,7 @@ module _ (threads : List (List ℕ)) where
   }
 
   -- the end of a thread
-  pub closed_has : (part : Part) (line end n : ℕ) (done : List Statement) (lines : List Line)
+  pub closed_has : (part : ReadPart) (line end n : ℕ) (done : List Statement) (lines : List Line)
       → HasRead threads part lines n → part.open_blocks ≡ record {
         opening = parts.Thread line;
         done = done;

@@ -17,7 +17,7 @@ use Rattle.script_tree.specs.Lines.{tokens_in, is_blank_line, version_in, versio
 use Rattle.script_tree.specs.Lines.{names_of, opens, depth, opener}
 use Rattle.script_tree.specs.Faults as faults
 use Rattle.script_tree.specs.Faults.{Place, tokens_before, are_blank, IsBelowHeader, HasForm}
-use Rattle.script_parse.specs.Part.{Part}
+use Rattle.script_parse.specs.Part.{ReadPart}
 use Rattle.script_parse.specs.Reading.{Finder, is_empty, unless, header_taken, first_part}
 use Rattle.script_parse.specs.Reading.{line_taken, some_part}
 use Rattle.script_parse.proofs.Choices.{some, passed, same_bytes, clash}
@@ -104,7 +104,7 @@ begun_stands lines tokens version e q =
     subst (λ (ts : List Token). Stands (first_part version) (lines ++ ts ∷ [])) (sym h.1)
     (header_stands lines h.0 version (ap version_in (sym h.1) ∙ e) q)
 
-quiet_chain : (u l t : Bool) (next : Option Part)
+quiet_chain : (u l t : Bool) (next : Option ReadPart)
     → fault_of (unless (cond u (Some fault.NotUtf8)
     (cond l (Some fault.LineTooLong) (cond t (Some fault.TooManyLines) None))) (Ok next))
     ≡ first_in (tests u l t false false false false false false false false false false) in_order
@@ -113,7 +113,7 @@ quiet_chain false true t next = refl
 quiet_chain false false true next = refl
 quiet_chain false false false next = refl
 
-good_chain : (u l t last : Bool) (next : Part)
+good_chain : (u l t last : Bool) (next : ReadPart)
     → fault_of (unless (cond u (Some fault.NotUtf8)
     (cond l (Some fault.LineTooLong) (cond t (Some fault.TooManyLines) None)))
     (some_part (cond last (Err fault.NoThread) (Ok next))))

@@ -13,7 +13,7 @@ use Rattle.script_tree.specs.Faults as faults
 use Rattle.script_tree.specs.Faults.{Place, SoFar, tokens_before, is_declared}
 use Rattle.script_tree.specs.Faults.{IsBelowHeader}
 use Rattle.script_tree.specs.Faults.{HasForm, HasFormWith}
-use Rattle.script_parse.specs.Part.{Part}
+use Rattle.script_parse.specs.Part.{ReadPart}
 use Rattle.script_parse.specs.Reading.{is_empty, so_far_in, is_known_name}
 use Rattle.script_parse.proofs.Choices.{some_is, clash}
 use Rattle.script_parse.proofs.FormWhole.{form_read}
@@ -58,7 +58,7 @@ tells_thread_any place =
     tells_last place (faults.lacks_thread (faults.so_far_at place) (tokens_in place.line))
 
 -- tests of what was read and of the line's tokens tell so, too
-module _ (part : Part) (place : Place) (s : Stands part (tokens_before place)) (tokens : List Token)
+module _ (part : ReadPart) (place : Place) (s : Stands part (tokens_before place)) (tokens : List Token)
     (here : tokens_in place.line ≡ tokens) where
   last_same : (test : SoFar → List Token → Bool)
       → test (faults.so_far_at place) (tokens_in place.line) ≡ test (so_far_in part) tokens
@@ -83,7 +83,7 @@ module _ (part : Part) (place : Place) (s : Stands part (tokens_before place)) (
 
 -- ---- a line below the header, of some form
 
-module _ (part : Part) (place : Place) (s : Stands part (tokens_before place))
+module _ (part : ReadPart) (place : Place) (s : Stands part (tokens_before place))
     (below : IsBelowHeader place) (cut : TokenForm) (meant : MeantForm)
     (is_form : IsForm part.version (tokens_in place.line) cut meant) where
   here : faults.so_far_at place ≡ so_far_in part

@@ -11,15 +11,16 @@ use Rattle.pct_ask.specs.Tokens.{Token, Word, Symbol}
 use Rattle.pct_ask.specs.NameLists.{NameLists}
 use Rattle.pct_ask.specs.declared.names.NameKind.{NameKind}
 use Rattle.pct_ask.specs.declared.names.NameKind.TheVariants as kinds
+use Rattle.pct_ask.specs.Words.{register_word}
+use Rattle.pct_ask.specs.StatementVerbs.{on_word, into_word}
 use Rattle.script_tree.specs.Trees.{Statement, Statements, Closed, Then}
 use Rattle.script_tree.specs.Trees as trees
 use Rattle.script_tree.specs.ScriptText.{Thread as ThreadTree}
-use Rattle.pct_ask.specs.Words.{register_word}
 use Rattle.script_tree.specs.Forms as forms
 use Rattle.script_tree.specs.Forms.{TokenForm, MeantForm, Plain, Valued, Thread, On, Into, Write}
 use Rattle.script_tree.specs.Forms.{Add, Cas, Wait, Yield, Assert, Set, If, While, End, Else}
-use Rattle.script_tree.specs.Forms.{on_word, into_word, kind_word, has_value, is_plain, value_in}
-use Rattle.script_tree.specs.Forms.{tokens_of_form, IsFormOf, Means}
+use Rattle.script_tree.specs.Forms.{kind_word, has_value, is_plain, value_in, tokens_of_form}
+use Rattle.script_tree.specs.Forms.{IsFormOf, Means}
 use Rattle.script_tree.specs.Lines.{tokens_in, declared_name, names_of, declared_value, values_of}
 use Rattle.script_tree.specs.Lines.{just_thread, thread_in, threads_begun}
 use Rattle.script_tree.specs.Grammar.{Line, declares, AreLines, IsLineText, statement_lines}

@@ -16,7 +16,7 @@ use Rattle.script_tree.specs.Ranges as ranges
 use Rattle.script_tree.specs.Faults.{Place, tokens_before, are_blank, IsBelowHeader, HasForm}
 use Rattle.script_tree.specs.Faults.{HasFormWith}
 use Rattle.script_tree.specs.Faults.{IsFaulty}
-use Rattle.script_parse.specs.Part.{Part}
+use Rattle.script_parse.specs.Part.{ReadPart}
 use Rattle.script_parse.specs.Saying.{form_in}
 use Rattle.script_parse.specs.Reading.{is_empty, so_far_in, bytes_fault, unless, some_part}
 use Rattle.script_parse.specs.Reading.{after_fault, line_taken}
@@ -31,7 +31,7 @@ use Rattle.script_parse.proofs.LineFaults.{tells_stray, tells_many, tells_end, t
 use Rattle.script_parse.proofs.LineFaults.{tells_end_any, tells_thread_any}
 
 abbrev pub AfterLine : Type 0
-AfterLine = Result (Option Part) ScriptFault
+AfterLine = Result (Option ReadPart) ScriptFault
 
 abbrev pub fault_of : AfterLine → Option ScriptFault
 fault_of (Ok next) = None
@@ -138,12 +138,12 @@ no_header : (place : Place) → are_blank place.before ≡ false → ¬ faults.B
 no_header place b (inl h) = clash (sym h.0 ∙ b)
 no_header place b (inr h) = clash (sym (ap are_blank h.0) ∙ b)
 
-wrapped_fault : (o : Option ScriptFault) (next : Part)
+wrapped_fault : (o : Option ScriptFault) (next : ReadPart)
     → fault_of (some_part (after_fault o next)) ≡ o
 wrapped_fault None next = refl
 wrapped_fault (Some kind) next = refl
 
-form_chain : (u l t m un tw ra ne st nt tm : Bool) (next : Part)
+form_chain : (u l t m un tw ra ne st nt tm : Bool) (next : ReadPart)
     → fault_of (unless (cond u (Some fault.NotUtf8)
     (cond l (Some fault.LineTooLong) (cond t (Some fault.TooManyLines) None)))
     (some_part (after_fault (cond (not m) (Some fault.BadStatement)
@@ -170,7 +170,7 @@ bad_chain false true t kind rest e = refl
 bad_chain false false true kind rest e = refl
 bad_chain false false false kind rest e = sym e
 
-blank_chain : (u l t ne nt : Bool) (next : Part)
+blank_chain : (u l t ne nt : Bool) (next : ReadPart)
     → fault_of (unless (cond u (Some fault.NotUtf8)
     (cond l (Some fault.LineTooLong) (cond t (Some fault.TooManyLines) None)))
     (some_part (after_fault (cond ne (Some fault.NoEnd) (cond nt (Some fault.NoThread) None))
@@ -225,7 +225,7 @@ pub says_something : (line : List ℕ) (token : Token) (tokens : List Token)
 says_something line token tokens e = rw e refl
 
 -- a line of some form
-module _ (part : Part) (place : Place) (s : Stands part (tokens_before place))
+module _ (part : ReadPart) (place : Place) (s : Stands part (tokens_before place))
     (below : are_blank place.before ≡ false) where
   abbrev pub step : AfterLine
   step =

@@ -2,9 +2,9 @@
 use Rattle.std.proofs.Common.{ℕ, List, sym, subst}
 use Rattle.pct_ask.specs.Tokens.{Token}
 use Rattle.pct_ask.specs.declared.names.NameKind.{NameKind}
+use Rattle.pct_ask.specs.declared.statement_verbs.OnVerb.{OnVerb}
+use Rattle.pct_ask.specs.declared.statement_verbs.IntoVerb.{IntoVerb}
 use Rattle.script_tree.specs.Trees.{Expression}
-use Rattle.script_tree.specs.declared.verb.OnVerb.{OnVerb}
-use Rattle.script_tree.specs.declared.verb.IntoVerb.{IntoVerb}
 use Rattle.script_tree.specs.Forms.{TokenForm, MeantForm, Plain, Valued, Thread, On, Into, Write}
 use Rattle.script_tree.specs.Forms.{Add, Cas, Wait, Yield, Assert, Set, If, While, End, Else, Means}
 

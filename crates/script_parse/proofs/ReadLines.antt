@@ -7,7 +7,7 @@ use Rattle.pct_ask.specs.Tokens.{Token, tokens_of}
 use Rattle.script_tree.specs.Forms.{MeantForm}
 use Rattle.script_tree.specs.Lines.{tokens_in, is_blank_line, is_nothing}
 use Rattle.script_tree.specs.Grammar.{Line, AreLines, IsLineText}
-use Rattle.script_parse.specs.Part.{Part}
+use Rattle.script_parse.specs.Part.{ReadPart}
 use Rattle.script_parse.specs.Reading.{Finder, is_empty, with_form, blank_fault, line_taken}
 use Rattle.script_parse.specs.Reading.{script_from, script_of}
 use Rattle.script_parse.proofs.Standing.{Stands, blank_stands}
@@ -27,19 +27,19 @@ blank_tokens text b = nothing_is (tokens_of text) b
 pub blank_in : (text : List ℕ) → is_blank_line text ≡ true → tokens_in text ≡ []
 blank_in text b = rw (blank_tokens text b) refl
 
-no_blank_fault : (part : Part) (last : Bool) → WholeAfter last part → blank_fault part last ≡ None
+no_blank_fault : (part : ReadPart) (last : Bool) → WholeAfter last part → blank_fault part last ≡ None
 no_blank_fault part false whole = refl
 no_blank_fault part true whole = rw ((whole refl).closed, (whole refl).threads) refl
 
 -- a blank line is read
-blank_step : (part : Part) (find : Finder) (n : ℕ) (last : Bool) (text : List ℕ)
+blank_step : (part : ReadPart) (find : Finder) (n : ℕ) (last : Bool) (text : List ℕ)
     → is_blank_line text ≡ true → WholeAfter last part → IsLineText text → n ≤ 4096
     → line_taken (Some part) find n last text ≡ Ok (Some part)
 blank_step part find n last text b whole sound few =
     rw (plain_line n text sound few, blank_tokens text b, no_blank_fault part last whole) refl
 
 -- where no line is left, what was read is the whole
-whole_here : (find : Finder) (texts : List (List ℕ)) (version n : ℕ) (part last : Part)
+whole_here : (find : Finder) (texts : List (List ℕ)) (version n : ℕ) (part last : ReadPart)
     (lines : List Line) → AreLines version n texts lines → Runs find part lines last → IsWhole last
     → WholeAfter (is_empty texts) part
 whole_here find [] version n part last lines a r whole =
@@ -47,13 +47,13 @@ whole_here find [] version n part last lines a r whole =
 whole_here find (text ∷ texts) version n part last lines a r whole =
     λ e. clash (sym e ∙ some_there text texts)
 
-pub lines_read : (find : Finder) (texts : List (List ℕ)) (n : ℕ) (part last : Part)
+pub lines_read : (find : Finder) (texts : List (List ℕ)) (n : ℕ) (part last : ReadPart)
     (lines : List Line) (before : List (List Token)) → Stands part before
     → AreLines part.version n texts lines → Runs find part lines last → IsWhole last
     → All IsLineText texts → n + length texts ≤ 4097
     → script_from find (Some part) n texts ≡ Ok (script_of last)
 lines_read find [] n part last lines before s a r whole sound few =
-    ap (λ (p : Part). Ok (script_of p)) (subst (λ (ls : List Line). Runs find part ls last) a r)
+    ap (λ (p : ReadPart). Ok (script_of p)) (subst (λ (ls : List Line). Runs find part ls last) a r)
 lines_read find (text ∷ texts) n part last lines before s (inl a) r whole sound few =
     let here = whole_here find texts part.version (n + 1) part last lines a.1 r whole in
     let step = blank_step part find n (is_empty texts) text a.0 here
@@ -63,7 +63,7 @@ lines_read find (text ∷ texts) n part last lines before s (inl a) r whole soun
     (omega (arith, few)))
 lines_read find (text ∷ texts) n part last lines before s (inr a) r whole sound few =
     let meant : MeantForm = a.0 in
-    let next : Part = with_form part find n meant in
+    let next : ReadPart = with_form part find n meant in
     let runs : Runs find part ((n, meant) ∷ a.1) last =
     subst (λ (ls : List Line). Runs find part ls last) a.2 r in
     let here = whole_here find texts part.version (n + 1) next last a.1 a.4 runs.1 whole in

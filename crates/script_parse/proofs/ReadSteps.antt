@@ -10,7 +10,7 @@ use Rattle.script_tree.specs.declared.fault.ScriptFault.{ScriptFault}
 use Rattle.script_tree.specs.Fitting.{IsScript}
 use Rattle.script_tree.specs.Lines.{threads_begun}
 use Rattle.script_tree.specs.Faults.{are_blank}
-use Rattle.script_parse.specs.Part.{Part}
+use Rattle.script_parse.specs.Part.{ReadPart}
 use Rattle.script_parse.specs.Reading.{Finder, is_empty, line_taken, script_from, read_as_script}
 use Rattle.script_parse.specs.Reading.{script_of, script_at_end}
 use Rattle.script_parse.proofs.Spelled.{read_is_spelled}
@@ -29,19 +29,19 @@ last_is n total line (text ∷ texts) e =
     let differs : (n == total) ≡ false = grind (arith, nat_tests) in
     differs ∙ sym (some_there text texts)
 
-pub reads_on : (find : Finder) (state next : Option Part) (n : ℕ) (line : List ℕ)
+pub reads_on : (find : Finder) (state next : Option ReadPart) (n : ℕ) (line : List ℕ)
     (lines : List (List ℕ)) → line_taken state find n (is_empty lines) line
     ≡ Ok next → script_from find state n (line ∷ lines) ≡ script_from find next (n + 1) lines
 reads_on find state next n line lines e = rw e refl
 
-pub stops_at : (find : Finder) (state : Option Part) (n : ℕ) (kind : ScriptFault) (line : List ℕ)
+pub stops_at : (find : Finder) (state : Option ReadPart) (n : ℕ) (kind : ScriptFault) (line : List ℕ)
     (lines : List (List ℕ)) → line_taken state find n (is_empty lines) line
     ≡ Err kind → ◌≡◌ {A = Found} (script_from find state n (line ∷ lines)) (Err (n, kind))
 stops_at find state n kind line lines e = rw e refl
 
 -- A line with a fault ends the reading, where what is left of the lines gives what all of them
 -- give.
-pub bad_read : (bytes : List ℕ) (find : Finder) (state : Option Part) (n total : ℕ)
+pub bad_read : (bytes : List ℕ) (find : Finder) (state : Option ReadPart) (n total : ℕ)
     (kind : ScriptFault) (line : List ℕ) (left lines : List (List ℕ))
     → length bytes ≤ 1048576 → are_blank (lines_of bytes) ≡ false
     → ((name : List ℕ) → find name ≡ place_of name (threads_begun (lines_of bytes)))
@@ -60,7 +60,7 @@ bad_read bytes find state n total kind line left lines small says same rest numb
     read_by bytes find (Err (n, kind)) small says same (sym rest ∙ stops)
 
 -- a line with no fault leaves what all lines give to those behind it
-pub next_read : (find : Finder) (state next : Option Part) (n total : ℕ) (line : List ℕ)
+pub next_read : (find : Finder) (state next : Option ReadPart) (n total : ℕ) (line : List ℕ)
     (left lines all : List (List ℕ)) → script_from find state n left ≡ script_from find None 1 all
     → n + length left ≡ total + 1 → left ≡ line ∷ lines
     → Ok next ≡ line_taken state find n (n == total) line → script_from find next (n + 1) lines
@@ -74,7 +74,7 @@ next_read find state next n total line left lines all rest number cut good =
     ∙ ap (script_from find state n) (sym cut) ∙ rest
 
 -- where no line is left, all lines were read as what was read last
-pub all_read : (find : Finder) (state : Option Part) (part : Part) (n : ℕ)
+pub all_read : (find : Finder) (state : Option ReadPart) (part : ReadPart) (n : ℕ)
     (left all : List (List ℕ)) → script_from find state n left
     ≡ script_from find None 1 all → left ≡ [] → state ≡ Some part
     → script_from find None 1 all ≡ Ok (script_of part)
@@ -82,7 +82,7 @@ all_read find state part n left all rest none below =
     sym rest ∙ ap (script_from find state n) none ∙ ap script_at_end below
 
 -- what is read behind the last line is a script
-pub end_fits : (bytes : List ℕ) (find : Finder) (part : Part) → length bytes ≤ 1048576
+pub end_fits : (bytes : List ℕ) (find : Finder) (part : ReadPart) → length bytes ≤ 1048576
     → are_blank (lines_of bytes) ≡ false
     → ((name : List ℕ) → find name ≡ place_of name (threads_begun (lines_of bytes)))
     → script_from find None 1 (lines_of bytes) ≡ Ok (script_of part) → IsScript (script_of part)

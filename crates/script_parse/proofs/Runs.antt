@@ -8,27 +8,28 @@ use Rattle.std.proofs.lemmas.Bool.Decides.{nat_tests}
 use Rattle.pct_ask.specs.NameLists.{NameLists, list_of}
 use Rattle.pct_ask.specs.declared.names.NameKind.{NameKind}
 use Rattle.pct_ask.specs.declared.names.NameKind.TheVariants as kinds
+use Rattle.pct_ask.specs.declared.statement_verbs.OnVerb.TheVariants as on_verbs
+use Rattle.pct_ask.specs.declared.statement_verbs.IntoVerb.TheVariants as into_verbs
+use Rattle.pct_ask.specs.declared.statement_verbs.OnVerb.{OnVerb}
+use Rattle.pct_ask.specs.declared.statement_verbs.IntoVerb.{IntoVerb}
+use Rattle.pct_ask.specs.TraceText.{name_at}
+use Rattle.pct_ask.specs.StatementVerbs.{on_kind, into_kind}
 use Rattle.script_tree.specs.Trees.{Expression, Statement, Statements, Closed, Then, statement_list}
 use Rattle.script_tree.specs.Trees.{end_line, closed_at}
 use Rattle.script_tree.specs.Trees as trees
 use Rattle.script_tree.specs.Forms.{MeantForm}
-use Rattle.script_tree.specs.declared.verb.OnVerb.TheVariants as on_verbs
-use Rattle.script_tree.specs.declared.verb.IntoVerb.TheVariants as into_verbs
-use Rattle.script_tree.specs.declared.verb.OnVerb.{OnVerb}
-use Rattle.script_tree.specs.declared.verb.IntoVerb.{IntoVerb}
 use Rattle.script_tree.specs.Forms as forms
 use Rattle.script_tree.specs.Fitting.{line_fits, reg_fits, place_fits, expression_fits}
 use Rattle.script_tree.specs.Fitting.{statement_fits, statements_fit}
-use Rattle.pct_ask.specs.TraceText.{name_at}
 use Rattle.script_tree.specs.Grammar.{Line, statement_lines, block_lines}
 use Rattle.script_tree.specs.Faults as faults
-use Rattle.script_parse.specs.Part.{Opening, If, Else, While, Open, Part}
+use Rattle.script_parse.specs.Part.{Opening, If, Else, While, Open, ReadPart}
 use Rattle.script_parse.specs.Reading as reading
 use Rattle.script_parse.specs.Reading.{Finder, so_far_in, is_known_name, is_empty, with_form}
 use Rattle.script_parse.specs.Reading.{place_in, on_statement, into_statement}
 
 -- a line of this form has no fault, its numbers and its being the last line aside
-pub record IsFree (part : Part) (find : Finder) (meant : MeantForm) : Type 0 where
+pub record IsFree (part : ReadPart) (find : Finder) (meant : MeantForm) : Type 0 where
   pub stands : faults.may_stand (so_far_in part) meant ≡ true
   pub known : faults.uses_unknown (is_known_name part.names find) meant ≡ false
   pub fresh : faults.declares_again (so_far_in part) meant ≡ false
@@ -36,7 +37,7 @@ pub record IsFree (part : Part) (find : Finder) (meant : MeantForm) : Type 0 whe
   pub few : faults.is_too_many (so_far_in part) meant ≡ false
 
 -- these lines, one after another, make this of what was read
-abbrev pub Runs : Finder → Part → List Line → Part → Type 0
+abbrev pub Runs : Finder → ReadPart → List Line → ReadPart → Type 0
 Runs find part [] last = part ≡ last
 Runs find part (line ∷ lines) last =
     IsFree part find line.1 × Runs find (with_form part find line.0 line.1) lines last
@@ -48,11 +49,11 @@ pub closed_again : (body : Statements) → closed_at (end_line body) (statement_
 closed_again (Closed line) = refl
 closed_again (Then s rest) = ap (Then s) (closed_again rest)
 
-module _ (find : Finder) (part : Part) (names : NameLists) (version : ℕ)
+module _ (find : Finder) (part : ReadPart) (names : NameLists) (version : ℕ)
     (found : (kind : NameKind) (place : ℕ) → place_fits (list_of kind names) place ≡ true
     → place_in part.names find kind (name_at (list_of kind names) place) ≡ Some place) where
   -- what was read, with these open blocks
-  abbrev at : List Open → Part
+  abbrev at : List Open → ReadPart
   at blocks = record part { open_blocks = blocks }
 
   abbrev inside : Opening → List Statement → List Open → List Open
@@ -64,7 +65,7 @@ module _ (find : Finder) (part : Part) (names : NameLists) (version : ℕ)
 
   -- one line that is a statement of its own
   simple : (opening : Opening) (done : List Statement) (outer : List Open) (line : Line)
-      (rest : List Line) (last : Part) (s : Statement)
+      (rest : List Line) (last : ReadPart) (s : Statement)
       → faults.may_stand (so_far_in (at (inside opening done outer))) line.1
       ≡ not (is_empty (inside opening done outer))
       → faults.uses_unknown (is_known_name part.names find) line.1 ≡ false
@@ -83,40 +84,40 @@ module _ (find : Finder) (part : Part) (names : NameLists) (version : ℕ)
       closes = c;
       few = t;
     },
-    subst (λ (p : Part). Runs find p rest last) (sym e) r,
+    subst (λ (p : ReadPart). Runs find p rest last) (sym e) r,
   )
 
   on_line : (verb : OnVerb) (line place : ℕ) (opening : Opening) (done : List Statement)
-      (outer : List Open) (rest : List Line) (last : Part)
-      → place_fits (list_of (forms.on_kind verb) names) place ≡ true
+      (outer : List Open) (rest : List Line) (last : ReadPart)
+      → place_fits (list_of (on_kind verb) names) place ≡ true
       → Runs find (at (inside opening (done ++ on_statement verb line place ∷ []) outer)) rest last
       → Runs find (at (inside opening done outer))
-      ((line, forms.On verb (name_at (list_of (forms.on_kind verb) names) place)) ∷ rest) last
+      ((line, forms.On verb (name_at (list_of (on_kind verb) names) place)) ∷ rest) last
   on_line verb line place opening done outer rest last p r =
       simple opening done outer (
         line,
-        forms.On verb (name_at (list_of (forms.on_kind verb) names) place),
+        forms.On verb (name_at (list_of (on_kind verb) names) place),
       ) rest last
-      (on_statement verb line place) refl (known_at (forms.on_kind verb) place p) refl refl refl
-      (rw (found (forms.on_kind verb) place p) refl) r
+      (on_statement verb line place) refl (known_at (on_kind verb) place p) refl refl refl
+      (rw (found (on_kind verb) place p) refl) r
 
   into_line : (verb : IntoVerb) (line reg place : ℕ) (opening : Opening)
-      (done : List Statement) (outer : List Open) (rest : List Line) (last : Part)
-      → place_fits (list_of (forms.into_kind verb) names) place ≡ true
+      (done : List Statement) (outer : List Open) (rest : List Line) (last : ReadPart)
+      → place_fits (list_of (into_kind verb) names) place ≡ true
       → Runs find (at (inside opening (done ++ into_statement verb line reg place ∷ []) outer)) rest
       last → Runs find (at (inside opening done outer))
-      ((line, forms.Into verb reg (name_at (list_of (forms.into_kind verb) names) place))
+      ((line, forms.Into verb reg (name_at (list_of (into_kind verb) names) place))
       ∷ rest) last
   into_line verb line reg place opening done outer rest last p r =
       simple opening done outer (
         line,
-        forms.Into verb reg (name_at (list_of (forms.into_kind verb) names) place),
+        forms.Into verb reg (name_at (list_of (into_kind verb) names) place),
       ) rest last
-      (into_statement verb line reg place) refl (known_at (forms.into_kind verb) place p) refl
-      refl refl (rw (found (forms.into_kind verb) place p) refl) r
+      (into_statement verb line reg place) refl (known_at (into_kind verb) place p) refl
+      refl refl (rw (found (into_kind verb) place p) refl) r
 
   ends_run : (inner : Opening) (body : List Statement) (opening : Opening) (done : List Statement)
-      (outer : List Open) (end : ℕ) (rest : List Line) (last : Part) (s : Statement)
+      (outer : List Open) (end : ℕ) (rest : List Line) (last : ReadPart) (s : Statement)
       → reading.with_end (at (inside inner body (inside opening done outer)))
       (inside inner body (inside opening done outer)) end
       ≡ at (inside opening (done ++ s ∷ []) outer)
@@ -131,11 +132,11 @@ module _ (find : Finder) (part : Part) (names : NameLists) (version : ℕ)
       closes = some_there (record { opening = inner; done = body }) (inside opening done outer);
       few = refl;
     },
-    subst (λ (p : Part). Runs find p rest last) (sym e) r,
+    subst (λ (p : ReadPart). Runs find p rest last) (sym e) r,
   )
 
   opens_run : (inner : Opening) (line : Line) (opening : Opening) (done : List Statement)
-      (outer : List Open) (rest : List Line) (last : Part)
+      (outer : List Open) (rest : List Line) (last : ReadPart)
       → faults.may_stand (so_far_in (at (inside opening done outer))) line.1
       ≡ not (is_empty (inside opening done outer))
       → faults.uses_unknown (is_known_name part.names find) line.1 ≡ false
@@ -156,11 +157,11 @@ module _ (find : Finder) (part : Part) (names : NameLists) (version : ℕ)
           closes = c;
           few = t ∙ lt-leb 33 (length (inside opening done outer)) (omega (arith, few));
         },
-        subst (λ (p : Part). Runs find p rest last) (sym e) r,
+        subst (λ (p : ReadPart). Runs find p rest last) (sym e) r,
       )
 
   turns_run : (line : ℕ) (test : Expression) (first : Statements) (opening : Opening)
-      (done : List Statement) (outer : List Open) (rest : List Line) (last : Part)
+      (done : List Statement) (outer : List Open) (rest : List Line) (last : ReadPart)
       → Runs find (at (inside (Else line test first) [] (inside opening done outer))) rest last
       → Runs find (at (inside (If line test) (statement_list first) (inside opening done outer)))
       ((end_line first, forms.Else) ∷ rest) last
@@ -173,7 +174,7 @@ module _ (find : Finder) (part : Part) (names : NameLists) (version : ℕ)
 
   mutual
     pub statement_runs : (s : Statement) (opening : Opening) (done : List Statement)
-        (outer : List Open) (rest : List Line) (last : Part) (room : ℕ) → room ≡ 32 - length outer
+        (outer : List Open) (rest : List Line) (last : ReadPart) (room : ℕ) → room ≡ 32 - length outer
         → statement_fits version names room s ≡ true
         → Runs find (at (inside opening (done ++ s ∷ []) outer)) rest last
         → Runs find (at (inside opening done outer)) (statement_lines names s ++ rest) last
@@ -333,7 +334,7 @@ module _ (find : Finder) (part : Part) (names : NameLists) (version : ℕ)
         (done ++ trees.IfElse line test first b ∷ []) outer)) (closed_again otherwise)) r)))))
 
     pub body_runs : (body : Statements) (opening : Opening) (done : List Statement)
-        (outer : List Open) (closing : MeantForm) (rest : List Line) (last : Part) (room : ℕ)
+        (outer : List Open) (closing : MeantForm) (rest : List Line) (last : ReadPart) (room : ℕ)
         → room ≡ 32 - length outer → statements_fit version names room body ≡ true
         → Runs find (at (inside opening (done ++ statement_list body) outer))
         ((end_line body, closing) ∷ rest) last

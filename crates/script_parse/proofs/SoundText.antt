@@ -22,7 +22,7 @@ use Rattle.script_tree.specs.Lines.{tokens_in, is_blank_line, version_in, just_t
 use Rattle.script_tree.specs.Lines.{threads_begun}
 use Rattle.script_tree.specs.Faults.{are_blank}
 use Rattle.script_tree.specs.Grammar.{Line, AreLines, IsLineText}
-use Rattle.script_parse.specs.Part.{Part}
+use Rattle.script_parse.specs.Part.{ReadPart}
 use Rattle.script_parse.specs.Saying.{form_in}
 use Rattle.script_parse.specs.Reading.{form_fault, with_form, bytes_fault, unless, some_part}
 use Rattle.script_parse.specs.Reading.{blank_fault, header_taken, part_after_header, first_part}
@@ -40,7 +40,7 @@ use Rattle.script_parse.proofs.DeclaredForms.{form_adds}
 use Rattle.script_parse.proofs.FormFaults.{no_fault_parts}
 
 -- what holds of a text's lines and of what was read of them
-pub record Reads (threads : List (List ℕ)) (part : Part) (before : List (List ℕ)) : Type 0 where
+pub record Reads (threads : List (List ℕ)) (part : ReadPart) (before : List (List ℕ)) : Type 0 where
   pub above : List (List ℕ)
   pub header : List ℕ
   pub below : List (List ℕ)
@@ -61,7 +61,7 @@ pub record ReadsNone (before : List (List ℕ)) : Type 0 where
   pub promised : threads_begun before ≡ []
   pub sound : All IsLineText before
 
-abbrev pub ReadsBefore : List (List ℕ) → Option Part → List (List ℕ) → Type 0
+abbrev pub ReadsBefore : List (List ℕ) → Option ReadPart → List (List ℕ) → Type 0
 ReadsBefore threads None before = ReadsNone before
 ReadsBefore threads (Some part) before = Reads threads part before
 
@@ -72,7 +72,7 @@ record IsPlain (number : ℕ) (line : List ℕ) : Type 0 where
   few : number ≤ 4096
 
 bytes_plain : (number : ℕ) (line : List ℕ) (u l t : Bool) → is_utf8 line ≡ not u
-    → nat_lt 256 (length line) ≡ l → nat_lt 4096 number ≡ t → (r : AfterLine) (next : Option Part)
+    → nat_lt 256 (length line) ≡ l → nat_lt 4096 number ≡ t → (r : AfterLine) (next : Option ReadPart)
     → unless (cond u (Some fault.NotUtf8)
     (cond l (Some fault.LineTooLong) (cond t (Some fault.TooManyLines) None))) r ≡ Ok next
     → IsPlain number line
@@ -88,7 +88,7 @@ not_not : (b : Bool) → b ≡ not (not b)
 not_not true = refl
 not_not false = refl
 
-line_plain : (number : ℕ) (line : List ℕ) (r : AfterLine) (next : Option Part)
+line_plain : (number : ℕ) (line : List ℕ) (r : AfterLine) (next : Option ReadPart)
     → unless (bytes_fault number line) r ≡ Ok next → IsPlain number line
 line_plain number line r next e =
     bytes_plain number line (not (is_utf8 line)) (nat_lt 256 (length line)) (nat_lt 4096 number)
@@ -109,7 +109,7 @@ blank_threads : (before : List (List ℕ)) (line : List ℕ) → is_utf8 line �
 blank_threads before line u e =
     threads_push before line u ∙ rw e (append-nil (threads_begun before))
 
-later : (threads : List (List ℕ)) (part : Part) (lines : List Line) (n m : ℕ) → n ≤ m
+later : (threads : List (List ℕ)) (part : ReadPart) (lines : List Line) (n m : ℕ) → n ≤ m
     → HasRead threads part lines n → HasRead threads part lines m
 later threads part lines n m few h = record {
   first_version = h.first_version;
@@ -141,7 +141,7 @@ split_more before above below header line e =
     ap (λ (ls : List (List ℕ)). ls ++ line ∷ []) e ∙ append_assoc above (header ∷ below) (line ∷ [])
 
 -- a blank line
-blank_reads : (threads : List (List ℕ)) (part : Part) (before : List (List ℕ)) (line : List ℕ)
+blank_reads : (threads : List (List ℕ)) (part : ReadPart) (before : List (List ℕ)) (line : List ℕ)
     → Reads threads part before → IsPlain (length before + 1) line → tokens_of line ≡ Some []
     → Reads threads part (before ++ line ∷ [])
 blank_reads threads part before line r p e =
@@ -168,7 +168,7 @@ blank_reads threads part before line r p e =
     }
 
 -- a line of some form
-form_reads : (threads : List (List ℕ)) (part : Part) (before : List (List ℕ)) (line : List ℕ)
+form_reads : (threads : List (List ℕ)) (part : ReadPart) (before : List (List ℕ)) (line : List ℕ)
     (tokens : List Token) (meant : MeantForm) (last : Bool) → Reads threads part before
     → IsPlain (length before + 1) line → tokens_of line ≡ Some tokens
     → form_in part.version tokens ≡ Some meant
@@ -177,7 +177,7 @@ form_reads : (threads : List (List ℕ)) (part : Part) (before : List (List ℕ)
     (before ++ line ∷ [])
 form_reads threads part before line tokens meant last r p e f g =
     let longer : length (before ++ line ∷ []) ≡ length before + 1 = length_push before line in
-    let next : Part = with_form part (finder threads) (length before + 1) meant in
+    let next : ReadPart = with_form part (finder threads) (length before + 1) meant in
     let no_fault = no_fault_parts part (finder threads) last tokens meant g in
     let has = form_says part.version tokens meant f in
     let here : tokens_in line ≡ tokens = cut_tokens line tokens e in
@@ -228,15 +228,15 @@ form_reads threads part before line tokens meant last r p e f g =
 
 -- ---- one line more
 
-below_reads : (threads : List (List ℕ)) (part : Part) (last : Bool) (before : List (List ℕ))
-    (line : List ℕ) (next : Option Part) (found : Option (List Token)) → Reads threads part before
+below_reads : (threads : List (List ℕ)) (part : ReadPart) (last : Bool) (before : List (List ℕ))
+    (line : List ℕ) (next : Option ReadPart) (found : Option (List Token)) → Reads threads part before
     → IsPlain (length before + 1) line → tokens_of line ≡ found
     → some_part (tokens_taken part (finder threads) (length before + 1) last found) ≡ Ok next
     → ReadsBefore threads next (before ++ line ∷ [])
 below_reads threads part last before line next None r p e w = err_ok w
 below_reads threads part last before line next (Some []) r p e w =
     let ok = wrapped_ok (blank_fault part last) part next w in
-    subst (λ (x : Option Part). ReadsBefore threads x (before ++ line ∷ [])) ok.1
+    subst (λ (x : Option ReadPart). ReadsBefore threads x (before ++ line ∷ [])) ok.1
     (blank_reads threads part before line r p e)
 below_reads threads part last before line next (Some (token ∷ tokens)) r p e w =
     by_form (form_in part.version (token ∷ tokens)) refl w
@@ -248,7 +248,7 @@ below_reads threads part last before line next (Some (token ∷ tokens)) r p e w
     by_form (Some meant) f w =
         let ok = wrapped_ok (form_fault part (finder threads) last (token ∷ tokens) meant)
         (with_form part (finder threads) (length before + 1) meant) next w in
-        subst (λ (x : Option Part). ReadsBefore threads x (before ++ line ∷ [])) ok.1
+        subst (λ (x : Option ReadPart). ReadsBefore threads x (before ++ line ∷ [])) ok.1
         (form_reads threads part before line (token ∷ tokens) meant last r p e f ok.0)
 
 -- the version of a header
@@ -326,13 +326,13 @@ start_has threads version n low high = record {
 }
 
 above_reads : (threads : List (List ℕ)) (last : Bool) (before : List (List ℕ)) (line : List ℕ)
-    (next : Option Part) (found : Option (List Token)) → ReadsNone before
+    (next : Option ReadPart) (found : Option (List Token)) → ReadsNone before
     → IsPlain (length before + 1) line → tokens_of line ≡ found → header_taken last found ≡ Ok next
     → ReadsBefore threads next (before ++ line ∷ [])
 above_reads threads last before line next None r p e w = err_ok w
 above_reads threads last before line next (Some []) r p e w =
     let blank : is_blank_line line ≡ true = rw e refl in
-    subst (λ (x : Option Part). ReadsBefore threads x (before ++ line ∷ [])) (ok_is w)
+    subst (λ (x : Option ReadPart). ReadsBefore threads x (before ++ line ∷ [])) (ok_is w)
     (record {
       blank = list_all-append is_blank_line before (line ∷ []) ∙ rw (r.blank, blank) refl;
       promised = blank_threads before line p.sound.text e ∙ r.promised;
@@ -350,7 +350,7 @@ above_reads threads last before line next (Some (token ∷ tokens)) r p e w =
         let range = version_few (token ∷ tokens) version v in
         let here : tokens_in line ≡ token ∷ tokens = cut_tokens line (token ∷ tokens) e in
         let longer : length (before ++ line ∷ []) ≡ length before + 1 = length_push before line in
-        subst (λ (x : Option Part). ReadsBefore threads x (before ++ line ∷ [])) (ok_is w) (record {
+        subst (λ (x : Option ReadPart). ReadsBefore threads x (before ++ line ∷ [])) (ok_is w) (record {
           above = before;
           header = line;
           below = [];
@@ -370,8 +370,8 @@ above_reads threads last before line next (Some (token ∷ tokens)) r p e w =
         })
 
 -- one more line is read
-pub line_reads : (threads : List (List ℕ)) (state : Option Part) (last : Bool)
-    (before : List (List ℕ)) (line : List ℕ) (next : Option Part) → ReadsBefore threads state before
+pub line_reads : (threads : List (List ℕ)) (state : Option ReadPart) (last : Bool)
+    (before : List (List ℕ)) (line : List ℕ) (next : Option ReadPart) → ReadsBefore threads state before
     → line_taken state (finder threads) (length before + 1) last line ≡ Ok next
     → ReadsBefore threads next (before ++ line ∷ [])
 line_reads threads None last before line next r w =

@@ -23,7 +23,7 @@ use Rattle.script_tree.specs.Lines.{declared_name, depth, threads_begun}
 use Rattle.script_tree.specs.Faults as faults
 use Rattle.script_tree.specs.Faults.{are_blank}
 use Rattle.script_tree.specs.Grammar.{AreLines, Spells, all_thread_lines}
-use Rattle.script_parse.specs.Part.{Open, Part}
+use Rattle.script_parse.specs.Part.{Open, ReadPart}
 use Rattle.script_parse.specs.Reading.{is_empty, line_taken, then_read, script_from, read_as_script}
 use Rattle.script_parse.specs.Reading.{script_of, blank_text_fault}
 use Rattle.script_parse.proofs.Standing.{Lines, Stands, depth_is}
@@ -39,12 +39,12 @@ use Rattle.script_parse.proofs.SoundText.{Reads, ReadsBefore, line_reads}
 
 -- what was read of all lines
 record IsReached (lines : List (List ℕ)) (script : ScriptText) : Type 0 where
-  part : Part
+  part : ReadPart
   script_is : script_of part ≡ script
   reads : Reads (threads_begun lines) part lines
   stands : Stands part (map tokens_in lines)
 
-reached : (rest lines before : List (List ℕ)) (state : Option Part) (n : ℕ) (script : ScriptText)
+reached : (rest lines before : List (List ℕ)) (state : Option ReadPart) (n : ℕ) (script : ScriptText)
     → n ≡ length before + 1 → lines ≡ before ++ rest
     → ReadsBefore (threads_begun lines) state before → StandsBefore state before
     → script_from (finder (threads_begun lines)) state n rest ≡ Ok script → IsReached lines script
@@ -70,7 +70,7 @@ reached (line ∷ rest) lines before state n script count e r s f =
     by_step : (result : AfterLine) → line_taken state (finder (threads_begun lines)) n
         (is_empty rest) line ≡ result → then_read n result
         (λ next. script_from (finder (threads_begun lines)) next (n + 1) rest) ≡ Ok script
-        → ((next : Option Part) → line_taken state (finder (threads_begun lines)) n
+        → ((next : Option ReadPart) → line_taken state (finder (threads_begun lines)) n
         (is_empty rest) line ≡ Ok next
         → script_from (finder (threads_begun lines)) next (n + 1) rest ≡ Ok script
         → IsReached lines script) → IsReached lines script
@@ -160,11 +160,11 @@ same_threads : (threads : List (List ℕ)) (names : NameLists) → threads ≡ n
     → with_threads threads names ≡ names
 same_threads threads names e = ap (λ (ts : List (List ℕ)). with_threads ts names) e
 
-record IsEnded (part : Part) : Type 0 where
+record IsEnded (part : ReadPart) : Type 0 where
   closed : part.open_blocks ≡ []
   some_thread : 1 ≤ length part.names.threads
 
-ended : (lines : List (List ℕ)) (part : Part) → HasLast lines → Stands part (map tokens_in lines)
+ended : (lines : List (List ℕ)) (part : ReadPart) → HasLast lines → Stands part (map tokens_in lines)
     → TellsFault (Ok (script_of part)) lines → IsEnded part
 ended lines part l s t =
     let behind : map tokens_in lines ≡ map tokens_in l.front ++ tokens_in l.last ∷ [] =
@@ -191,7 +191,7 @@ ended lines part l s t =
           no_thread (refl, sym (lacks_thread_same front line) ∙ ap is_empty (same_names ∙ h)));
     }
 
-spelled_part : (bytes : List ℕ) (part : Part) → length bytes ≤ 1048576
+spelled_part : (bytes : List ℕ) (part : ReadPart) → length bytes ≤ 1048576
     → Reads (threads_begun (lines_of bytes)) part (lines_of bytes)
     → Stands part (map tokens_in (lines_of bytes)) → IsEnded part → Spells bytes (script_of part)
 spelled_part bytes part small r s e =

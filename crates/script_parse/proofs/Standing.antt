@@ -12,17 +12,18 @@ use Rattle.pct_ask.specs.Tokens.{Token, Word, Number, Symbol}
 use Rattle.pct_ask.specs.NameLists.{NameLists, list_of, with_name}
 use Rattle.pct_ask.specs.declared.names.NameKind.{NameKind}
 use Rattle.pct_ask.specs.declared.names.NameKind.TheVariants as kinds
+use Rattle.pct_ask.specs.declared.statement_verbs.OnVerb.TheVariants as on_verbs
+use Rattle.pct_ask.specs.declared.statement_verbs.IntoVerb.TheVariants as into_verbs
+use Rattle.pct_ask.specs.declared.statement_verbs.OnVerb.{OnVerb}
+use Rattle.pct_ask.specs.declared.statement_verbs.IntoVerb.{IntoVerb}
+use Rattle.pct_ask.specs.StatementVerbs.{on_word, into_word}
 use Rattle.script_tree.specs.Trees.{Statement}
 use Rattle.script_tree.specs.Trees as trees
-use Rattle.script_tree.specs.declared.verb.OnVerb.TheVariants as on_verbs
-use Rattle.script_tree.specs.declared.verb.IntoVerb.TheVariants as into_verbs
 use Rattle.script_tree.specs.Forms as forms
-use Rattle.script_tree.specs.declared.verb.OnVerb.{OnVerb}
-use Rattle.script_tree.specs.declared.verb.IntoVerb.{IntoVerb}
-use Rattle.script_tree.specs.Forms.{on_word, into_word, kind_word, has_value, is_plain}
+use Rattle.script_tree.specs.Forms.{kind_word, has_value, is_plain}
 use Rattle.script_tree.specs.Lines.{version_of, begins_with, declared_name, names_of, opens, depth}
 use Rattle.script_tree.specs.Lines.{opener}
-use Rattle.script_parse.specs.Part.{Open, Part}
+use Rattle.script_parse.specs.Part.{Open, ReadPart}
 use Rattle.script_parse.specs.Part as parts
 use Rattle.script_parse.specs.Words.{kind_in}
 use Rattle.script_parse.specs.Reading as reading
@@ -39,7 +40,7 @@ is_if_at zero (block ∷ blocks) = is_if block.opening
 is_if_at (suc k) (block ∷ blocks) = is_if_at k blocks
 
 -- what was read of lines agrees with them
-pub record Stands (part : Part) (lines : Lines) : Type 0 where
+pub record Stands (part : ReadPart) (lines : Lines) : Type 0 where
   pub version : (more : Lines) → version_of (lines ++ more) ≡ part.version
   pub names : (kind : NameKind) → names_of kind lines ≡ list_of kind part.names
   pub depths : count_by opens lines ≡ count_by (begins_with (codes "end")) lines
@@ -47,7 +48,7 @@ pub record Stands (part : Part) (lines : Lines) : Type 0 where
   pub innermost : (k : ℕ) → begins_with (codes "if") (opener k (reverse lines))
       ≡ is_if_at k part.open_blocks
 
-pub depth_is : (part : Part) (lines : Lines) → Stands part lines
+pub depth_is : (part : ReadPart) (lines : Lines) → Stands part lines
     → depth lines ≡ length part.open_blocks
 depth_is part lines s = omega (arith, s.depths)
 
@@ -71,7 +72,7 @@ pub reverse_push : (lines : Lines) (line : List Token)
 reverse_push lines line = reverse-append lines (line ∷ [])
 
 -- a line that is blank changes nothing
-pub blank_stands : (part : Part) (lines : Lines) → Stands part lines
+pub blank_stands : (part : ReadPart) (lines : Lines) → Stands part lines
     → Stands part (lines ++ [] ∷ [])
 blank_stands part lines s = record {
   version = λ more. ap version_of (append_assoc lines ([] ∷ []) more) ∙ s.version ([] ∷ more);
@@ -175,7 +176,7 @@ alike_said s (block ∷ blocks) = record {
   same_ifs = λ k. same_at k block s blocks;
 }
 
-quiet_stands : (part next : Part) (lines : Lines) (line : List Token) → IsQuiet line
+quiet_stands : (part next : ReadPart) (lines : Lines) (line : List Token) → IsQuiet line
     → next.version ≡ part.version → next.names ≡ part.names
     → AreAlike part.open_blocks next.open_blocks → Stands part lines
     → Stands next (lines ++ line ∷ [])
@@ -212,7 +213,7 @@ declared_more kinds.Barrier kinds.Barrier name rest names = refl
 declared_more kinds.RwLock kinds.RwLock name rest names = refl
 declared_more kind k name rest names = sym (append-nil (list_of k names))
 
-pub declared_names : (part : Part) (lines : Lines) (kind k : NameKind) (name : List ℕ)
+pub declared_names : (part : ReadPart) (lines : Lines) (kind k : NameKind) (name : List ℕ)
     (rest : List Token) → Stands part lines
     → names_of k (lines ++ (Word (kind_word kind) ∷ Word name ∷ rest) ∷ [])
     ≡ list_of k (with_name kind name part.names)
@@ -228,7 +229,7 @@ pub kind_ends_none : (kind : NameKind)
 kind_ends_none kinds.Thread = (refl, refl)
 kind_ends_none kind = (refl, refl)
 
-declares_stands : (part next : Part) (lines : Lines) (kind : NameKind) (name : List ℕ)
+declares_stands : (part next : ReadPart) (lines : Lines) (kind : NameKind) (name : List ℕ)
     (rest : List Token) → opens (Word (kind_word kind) ∷ []) ≡ false → next.version ≡ part.version
     → next.names ≡ with_name kind name part.names → next.open_blocks ≡ part.open_blocks
     → Stands part lines
@@ -268,7 +269,7 @@ opened_later k line rest e o =
     let less : suc k - 1 ≡ k = omega arith in
     rw (e, o, apart) (ap (λ (n : ℕ). opener n rest) less)
 
-pub opens_stands : (part next : Part) (lines : Lines) (line : List Token) (block : Open)
+pub opens_stands : (part next : ReadPart) (lines : Lines) (line : List Token) (block : Open)
     → opens line ≡ true → begins_with (codes "end") line ≡ false
     → begins_with (codes "if") line ≡ is_if block.opening → next.version ≡ part.version
     → ((kind : NameKind) → names_of kind (lines ++ line ∷ []) ≡ list_of kind next.names)
@@ -290,7 +291,7 @@ opens_stands part next lines line block o e i v n b s = record {
     inner (suc k) =
         ap (begins_with (codes "if")) (opened_later k line (reverse lines) e o) ∙ s.innermost k
 
-ends_stands : (part next : Part) (lines : Lines) (line : List Token) (block : Open)
+ends_stands : (part next : ReadPart) (lines : Lines) (line : List Token) (block : Open)
     (blocks : List Open) → begins_with (codes "end") line ≡ true → opens line ≡ false
     → ((kind : NameKind) → declared_name kind line ≡ None) → next.version ≡ part.version
     → next.names ≡ part.names
@@ -310,7 +311,7 @@ ends_stands part next lines line block blocks e o m v n b a s = record {
       (s.innermost (k + 1) ∙ rw (b, add-one) (sym (a.same_ifs k)));
 }
 
-turns_stands : (part next : Part) (lines : Lines) (line : List Token) (block turned : Open)
+turns_stands : (part next : ReadPart) (lines : Lines) (line : List Token) (block turned : Open)
     (blocks : List Open) → begins_with (codes "end") line ≡ false → opens line ≡ false
     → begins_with (codes "else") line ≡ true → begins_with (codes "if") line ≡ is_if turned.opening
     → ((kind : NameKind) → declared_name kind line ≡ None) → next.version ≡ part.version
@@ -342,7 +343,7 @@ turns_stands part next lines line block turned blocks e o t i m v n b c s = reco
 alike_refl : (blocks : List Open) → AreAlike blocks blocks
 alike_refl blocks = record { same_length = refl; same_ifs = λ k. refl }
 
-pub said_stands : (part : Part) (statement : Option Statement) (lines : Lines) (line : List Token)
+pub said_stands : (part : ReadPart) (statement : Option Statement) (lines : Lines) (line : List Token)
     → IsQuiet line → Stands part lines
     → Stands (reading.part_with_statement part statement) (lines ++ line ∷ [])
 said_stands part None lines line q s =
@@ -358,7 +359,7 @@ plain_opens_none kinds.Cond h = refl
 plain_opens_none kinds.RwLock h = refl
 plain_opens_none kind h = absurd cc
 
-pub plain_stands : (part : Part) (lines : Lines) (kind : NameKind) (name : List ℕ)
+pub plain_stands : (part : ReadPart) (lines : Lines) (kind : NameKind) (name : List ℕ)
     → is_plain kind ≡ true → Stands part lines
     → Stands (reading.with_declared part kind name)
     (lines ++ (Word (kind_word kind) ∷ Word name ∷ []) ∷ [])
@@ -366,7 +367,7 @@ plain_stands part lines kind name h s =
     declares_stands part (reading.with_declared part kind name) lines kind name []
     (plain_opens_none kind h) refl refl refl s
 
-pub valued_stands : (part : Part) (lines : Lines) (kind : NameKind) (name : List ℕ) (value : ℤ)
+pub valued_stands : (part : ReadPart) (lines : Lines) (kind : NameKind) (name : List ℕ) (value : ℤ)
     (rest : List Token) → has_value kind ≡ true → Stands part lines
     → Stands (reading.with_first_value kind value (reading.with_declared part kind name))
     (lines ++ (Word (kind_word kind) ∷ Word name ∷ rest) ∷ [])
@@ -382,7 +383,7 @@ valued_stands part lines kinds.Barrier name value rest h s =
     refl s
 valued_stands part lines kind name value rest h s = absurd cc
 
-pub quiet_names : (word : List ℕ) (rest : List Token) (part : Part) (lines : Lines)
+pub quiet_names : (word : List ℕ) (rest : List Token) (part : ReadPart) (lines : Lines)
     → kind_in word ≡ None → Stands part lines → (kind : NameKind)
     → names_of kind (lines ++ (Word word ∷ rest) ∷ []) ≡ list_of kind part.names
 quiet_names word rest part lines k s kind =
@@ -390,14 +391,14 @@ quiet_names word rest part lines k s kind =
     ∙ rw (nameless_at word rest kind (no_kind word k kind))
     (append-nil (names_of kind lines) ∙ s.names kind)
 
-pub end_stands_at : (part : Part) (blocks : List Open) (lines : Lines) (n : ℕ)
+pub end_stands_at : (part : ReadPart) (blocks : List Open) (lines : Lines) (n : ℕ)
     → part.open_blocks ≡ blocks → is_empty blocks ≡ false → Stands part lines
     → Stands (reading.with_end part blocks n) (lines ++ (Word (codes "end") ∷ []) ∷ [])
 end_stands_at part [] lines n b e s = absurd cc
 end_stands_at part (block ∷ blocks) lines n b e s =
     closed_stands block.opening (trees.closed_at n block.done)
   where
-    inner : Part
+    inner : ReadPart
     inner = record part { open_blocks = blocks }
 
     closed_stands : (opening : parts.Opening) (body : trees.Statements)
@@ -416,7 +417,7 @@ end_stands_at part (block ∷ blocks) lines n b e s =
         (λ kind. nameless_at (codes "end") [] kind (no_kind (codes "end") refl kind)) refl refl b
         (alike_said _ blocks) s
 
-pub else_stands_at : (part : Part) (blocks : List Open) (lines : Lines) (n : ℕ)
+pub else_stands_at : (part : ReadPart) (blocks : List Open) (lines : Lines) (n : ℕ)
     → part.open_blocks ≡ blocks → is_in_if blocks ≡ true → Stands part lines
     → Stands (reading.with_else part blocks n) (lines ++ (Word (codes "else") ∷ []) ∷ [])
 else_stands_at part [] lines n b e s = absurd cc

@@ -10,22 +10,23 @@ use Rattle.pct_ask.specs.NameLists.{NameLists, list_of, place_of}
 use Rattle.pct_ask.specs.declared.names.NameKind.{NameKind}
 use Rattle.pct_ask.specs.declared.names.NameKind.TheVariants as kinds
 use Rattle.pct_ask.proofs.laws.Names.{place_of-Some}
+use Rattle.pct_ask.specs.TraceText.{name_at}
+use Rattle.pct_ask.specs.declared.statement_verbs.OnVerb.{OnVerb}
+use Rattle.pct_ask.specs.declared.statement_verbs.OnVerb.TheVariants.{RwUnlock, WrLock, Lock, Start}
+use Rattle.pct_ask.specs.declared.statement_verbs.OnVerb.TheVariants.{RdLock}
+use Rattle.pct_ask.specs.declared.statement_verbs.IntoVerb.{IntoVerb}
+use Rattle.pct_ask.specs.declared.statement_verbs.IntoVerb.TheVariants.{Read, TryRdLock, TryWrLock}
+use Rattle.pct_ask.specs.StatementVerbs.{on_kind, into_kind, on_since, into_since}
 use Rattle.script_tree.specs.Trees.{Expression, Statement}
 use Rattle.script_tree.specs.Trees as trees
 use Rattle.script_tree.specs.Fitting.{line_fits, place_fits, expression_fits, statement_fits}
 use Rattle.script_tree.specs.Fitting.{count_of}
-use Rattle.pct_ask.specs.TraceText.{name_at}
 use Rattle.script_tree.specs.Grammar.{statement_lines}
 use Rattle.script_tree.specs.Expressions.{IsSpelled, number, register, enclosed, minus}
 use Rattle.script_tree.specs.Expressions.{not as negated, two, stronger}
-use Rattle.script_tree.specs.declared.verb.OnVerb.{OnVerb}
-use Rattle.script_tree.specs.declared.verb.OnVerb.TheVariants.{RwUnlock, WrLock, Lock, Start}
-use Rattle.script_tree.specs.declared.verb.OnVerb.TheVariants.{RdLock}
-use Rattle.script_tree.specs.declared.verb.IntoVerb.{IntoVerb}
-use Rattle.script_tree.specs.declared.verb.IntoVerb.TheVariants.{Read, TryRdLock, TryWrLock}
 use Rattle.script_tree.specs.Forms.{TokenForm, MeantForm, Plain, Valued, Thread, On, Into, Write}
 use Rattle.script_tree.specs.Forms.{Add, Cas, Wait, Yield, Assert, Set, If, While, End, Else}
-use Rattle.script_tree.specs.Forms.{on_kind, into_kind, on_since, into_since, IsFormOf, Means}
+use Rattle.script_tree.specs.Forms.{IsFormOf, Means}
 use Rattle.script_parse.specs.Reading.{Finder, place_in, on_statement, into_statement, statement_on}
 use Rattle.script_parse.proofs.Choices.{some_is, mapped_some, bind_some}
 use Rattle.script_parse.proofs.Meanings.{ForEach}

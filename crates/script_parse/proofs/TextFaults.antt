@@ -11,7 +11,7 @@ use Rattle.script_tree.specs.declared.fault.ScriptFault.{ScriptFault}
 use Rattle.script_tree.specs.Forms.{MeantForm, tokens_of_form}
 use Rattle.script_tree.specs.Lines.{tokens_in, is_blank_line, version_in, threads_begun}
 use Rattle.script_tree.specs.Faults.{Place, are_blank, IsFaulty}
-use Rattle.script_parse.specs.Part.{Part}
+use Rattle.script_parse.specs.Part.{ReadPart}
 use Rattle.script_parse.specs.Saying.{form_in}
 use Rattle.script_parse.specs.Reading.{Finder, is_empty, form_fault, with_form, bytes_fault, unless}
 use Rattle.script_parse.specs.Reading.{some_part, after_fault, blank_fault, header_taken}
@@ -28,7 +28,7 @@ use Rattle.script_parse.proofs.Choices.{clash}
 use Rattle.script_parse.proofs.FormFaults.{no_fault_parts}
 
 -- what was read of the lines before a line
-abbrev pub StandsBefore : Option Part → List (List ℕ) → Type 0
+abbrev pub StandsBefore : Option ReadPart → List (List ℕ) → Type 0
 StandsBefore None before = (are_blank before ≡ true) × AreQuiet (map tokens_in before)
 StandsBefore (Some part) before = (are_blank before ≡ false) × Stands part (map tokens_in before)
 
@@ -38,12 +38,12 @@ ok_is e = cc
 pub err_ok : {A E P : Type 0} {x : E} {y : A} → ◌≡◌ {A = Result A E} (Err x) (Ok y) → P
 err_ok e = absurd cc
 
-pub unless_ok : (o : Option ScriptFault) (r : AfterLine) (next : Option Part) → unless o r ≡ Ok next
+pub unless_ok : (o : Option ScriptFault) (r : AfterLine) (next : Option ReadPart) → unless o r ≡ Ok next
     → r ≡ Ok next
 unless_ok None r next e = e
 unless_ok (Some kind) r next e = err_ok e
 
-pub wrapped_ok : (o : Option ScriptFault) (part : Part) (next : Option Part)
+pub wrapped_ok : (o : Option ScriptFault) (part : ReadPart) (next : Option ReadPart)
     → some_part (after_fault o part) ≡ Ok next → (o ≡ None) × (Some part ≡ next)
 wrapped_ok None part next e = (refl, ok_is e)
 wrapped_ok (Some kind) part next e = err_ok e
@@ -61,20 +61,20 @@ still_below : (before : List (List ℕ)) (line : List ℕ) → are_blank before 
     → are_blank (before ++ line ∷ []) ≡ false
 still_below before line b = list_all-append is_blank_line before (line ∷ []) ∙ rw b refl
 
-blank_next : (part : Part) (find : Finder) (n : ℕ) (last : Bool) (before : List (List ℕ))
-    (line : List ℕ) (next : Option Part) → StandsBefore (Some part) before
+blank_next : (part : ReadPart) (find : Finder) (n : ℕ) (last : Bool) (before : List (List ℕ))
+    (line : List ℕ) (next : Option ReadPart) → StandsBefore (Some part) before
     → tokens_of line ≡ Some [] → some_part (after_fault (blank_fault part last) part) ≡ Ok next
     → StandsBefore next (before ++ line ∷ [])
 blank_next part find n last before line next s e r =
     let w = wrapped_ok (blank_fault part last) part next r in
-    subst (λ (p : Option Part). StandsBefore p (before ++ line ∷ [])) w.1 (
+    subst (λ (p : Option ReadPart). StandsBefore p (before ++ line ∷ [])) w.1 (
       still_below before line s.0,
       subst (Stands part) (sym (behind_tokens before line [] e))
           (blank_stands part (map tokens_in before) s.1),
     )
 
-form_next : (part : Part) (find : Finder) (n : ℕ) (last : Bool) (before : List (List ℕ))
-    (line : List ℕ) (next : Option Part) (tokens : List Token) (found : Option MeantForm)
+form_next : (part : ReadPart) (find : Finder) (n : ℕ) (last : Bool) (before : List (List ℕ))
+    (line : List ℕ) (next : Option ReadPart) (tokens : List Token) (found : Option MeantForm)
     → StandsBefore (Some part) before → tokens_of line ≡ Some tokens
     → form_in part.version tokens ≡ found
     → some_part (form_taken part find n last tokens found) ≡ Ok next
@@ -91,14 +91,14 @@ form_next part find n last before line next tokens (Some meant) s e f r =
     ≡ map tokens_in before ++ tokens_of_form has.cut ∷ [] =
     behind_tokens before line tokens e
     ∙ ap (λ (ts : List Token). map tokens_in before ++ ts ∷ []) has.form.spelled in
-    subst (λ (p : Option Part). StandsBefore p (before ++ line ∷ [])) w.1 (
+    subst (λ (p : Option ReadPart). StandsBefore p (before ++ line ∷ [])) w.1 (
       still_below before line s.0,
       subst (Stands (with_form part find n meant)) (sym behind)
           stands,
     )
 
-below_next : (part : Part) (find : Finder) (n : ℕ) (last : Bool) (before : List (List ℕ))
-    (line : List ℕ) (next : Option Part) (found : Option (List Token))
+below_next : (part : ReadPart) (find : Finder) (n : ℕ) (last : Bool) (before : List (List ℕ))
+    (line : List ℕ) (next : Option ReadPart) (found : Option (List Token))
     → StandsBefore (Some part) before → tokens_of line ≡ found
     → some_part (tokens_taken part find n last found) ≡ Ok next
     → StandsBefore next (before ++ line ∷ [])
@@ -109,27 +109,27 @@ below_next part find n last before line next (Some (token ∷ tokens)) s e r =
     form_next part find n last before line next (token ∷ tokens)
     (form_in part.version (token ∷ tokens)) s e refl r
 
-begun_next : (before : List (List ℕ)) (line : List ℕ) (last : Bool) (next : Option Part)
+begun_next : (before : List (List ℕ)) (line : List ℕ) (last : Bool) (next : Option ReadPart)
     (token : Token) (tokens : List Token) (version : Option ℕ) → StandsBefore None before
     → tokens_of line ≡ Some (token ∷ tokens) → version_in (token ∷ tokens) ≡ version
     → some_part (part_after_header last version) ≡ Ok next → StandsBefore next (before ++ line ∷ [])
 begun_next before line last next token tokens None s e v r = err_ok r
 begun_next before line true next token tokens (Some version) s e v r = err_ok r
 begun_next before line false next token tokens (Some version) s e v r =
-    subst (λ (p : Option Part). StandsBefore p (before ++ line ∷ [])) (ok_is r) (
+    subst (λ (p : Option ReadPart). StandsBefore p (before ++ line ∷ [])) (ok_is r) (
       list_all-append is_blank_line before (line ∷ [])
           ∙ rw (s.0, says_something line token tokens e) refl,
       subst (Stands (first_part version)) (sym (behind_tokens before line (token ∷ tokens) e))
           (begun_stands (map tokens_in before) (token ∷ tokens) version v s.1),
     )
 
-above_next : (before : List (List ℕ)) (line : List ℕ) (last : Bool) (next : Option Part)
+above_next : (before : List (List ℕ)) (line : List ℕ) (last : Bool) (next : Option ReadPart)
     (found : Option (List Token)) → StandsBefore None before → tokens_of line ≡ found
     → header_taken last found ≡ Ok next → StandsBefore next (before ++ line ∷ [])
 above_next before line last next None s e r = err_ok r
 above_next before line last next (Some []) s e r =
     let blank : is_blank_line line ≡ true = rw e refl in
-    subst (λ (p : Option Part). StandsBefore p (before ++ line ∷ [])) (ok_is r) (
+    subst (λ (p : Option ReadPart). StandsBefore p (before ++ line ∷ [])) (ok_is r) (
       list_all-append is_blank_line before (line ∷ []) ∙ rw (s.0, blank) refl,
       subst AreQuiet (sym (behind_tokens before line [] e))
           (quiet_blank (map tokens_in before) s.1),
@@ -137,8 +137,8 @@ above_next before line last next (Some []) s e r =
 above_next before line last next (Some (token ∷ tokens)) s e r =
     begun_next before line last next token tokens (version_in (token ∷ tokens)) s e refl r
 
-pub line_next : (state : Option Part) (find : Finder) (n : ℕ) (last : Bool) (before : List (List ℕ))
-    (line : List ℕ) (next : Option Part) → StandsBefore state before
+pub line_next : (state : Option ReadPart) (find : Finder) (n : ℕ) (last : Bool) (before : List (List ℕ))
+    (line : List ℕ) (next : Option ReadPart) → StandsBefore state before
     → line_taken state find n last line ≡ Ok next → StandsBefore next (before ++ line ∷ [])
 line_next None find n last before line next s r =
     above_next before line last next (tokens_of line) s refl
@@ -155,7 +155,7 @@ finder_of lines name = place_of name (threads_begun lines)
 abbrev pub at_place : List (List ℕ) → List ℕ → List (List ℕ) → Place
 at_place before line after = record { before = before; line = line; after = after }
 
-line_first : (state : Option Part) (before : List (List ℕ)) (line : List ℕ) (after : List (List ℕ))
+line_first : (state : Option ReadPart) (before : List (List ℕ)) (line : List ℕ) (after : List (List ℕ))
     → StandsBefore state before → are_blank (before ++ line ∷ after) ≡ false
     → IsFirst (fault_of (line_taken state (finder_of (before ++ line ∷ after))
     (length before + 1) (is_empty after) line)) (at_place before line after)
@@ -235,9 +235,9 @@ TellsFault (Err found) lines =
     × (found.0 ≡ length place.before + 1) × HasNoFaultBefore place × IsFirstKind place found.1
 
 step_tells : (lines before rest : List (List ℕ)) (line : List ℕ) (result : AfterLine)
-    (more : Option Part → Found) → lines ≡ before ++ line ∷ rest → NoneBefore before (line ∷ rest)
+    (more : Option ReadPart → Found) → lines ≡ before ++ line ∷ rest → NoneBefore before (line ∷ rest)
     → IsFirst (fault_of result) (at_place before line rest)
-    → ((next : Option Part) → result ≡ Ok next → NoneBefore (before ++ line ∷ []) rest
+    → ((next : Option ReadPart) → result ≡ Ok next → NoneBefore (before ++ line ∷ []) rest
     → TellsFault (more next) lines) → TellsFault (then_read (length before + 1) result more)
     lines
 step_tells lines before rest line (Err kind) more e none first on = (
@@ -250,7 +250,7 @@ step_tells lines before rest line (Err kind) more e none first on = (
 step_tells lines before rest line (Ok next) more e none first on =
     on next refl (none_push before rest line none first)
 
-pub all_tell : (rest : List (List ℕ)) (lines before : List (List ℕ)) (state : Option Part) (n : ℕ)
+pub all_tell : (rest : List (List ℕ)) (lines before : List (List ℕ)) (state : Option ReadPart) (n : ℕ)
     → n ≡ length before + 1 → lines ≡ before ++ rest → are_blank lines ≡ false
     → StandsBefore state before → NoneBefore before rest
     → TellsFault (script_from (finder_of lines) state n rest) lines

@@ -16,7 +16,7 @@ use Rattle.script_tree.specs.Fitting.{line_fits, place_fits, statements_fit, thr
 use Rattle.script_tree.specs.Fitting.{most_threads, counts_of}
 use Rattle.pct_ask.specs.TraceText.{name_at}
 use Rattle.script_tree.specs.Grammar.{all_thread_lines}
-use Rattle.script_parse.specs.Part.{Thread, Open, Part}
+use Rattle.script_parse.specs.Part.{Thread, Open, ReadPart}
 use Rattle.script_parse.specs.Reading.{Finder, place_in}
 use Rattle.script_parse.proofs.Fresh.{place_at, apart, among_parts, among-append, distinct_back}
 use Rattle.script_parse.proofs.Runs.{Runs, body_runs, closed_again}
@@ -84,9 +84,9 @@ module _ (names : NameLists) (distinct : AreDistinct (all_names names)) where
       let parts = apart xs (ys ++ others) name whole in
       among-append name xs others parts.0 (among_parts name ys others parts.1).1
 
-  module _ (part : Part) where
+  module _ (part : ReadPart) where
     -- what was read with these threads
-    abbrev pub having : List (List ℕ) → List ThreadTree → List Open → Part
+    abbrev pub having : List (List ℕ) → List ThreadTree → List Open → ReadPart
     having xs done blocks =
         record part { names = with_threads xs; threads = done; open_blocks = blocks }
 

@@ -17,7 +17,7 @@ use Rattle.script_tree.specs.Forms.{Add, Cas, Wait, Yield, Assert, Set, If, Whil
 use Rattle.script_tree.specs.Forms.{kind_word, has_value, is_plain, tokens_of_form, IsFormOf, Means}
 use Rattle.script_tree.specs.Lines.{tokens_in, declared_name, names_of, declared_value, values_of}
 use Rattle.script_tree.specs.Grammar.{Line, declares, Says, AreLines}
-use Rattle.script_parse.specs.Part.{Open, Part}
+use Rattle.script_parse.specs.Part.{Open, ReadPart}
 use Rattle.script_parse.specs.Reading as reading
 use Rattle.script_parse.specs.Reading.{Finder, is_empty, with_form}
 use Rattle.script_parse.proofs.Standing.{Stands, blank_stands}
@@ -31,22 +31,22 @@ use Rattle.script_parse.proofs.NewNames.{fresh_name}
 use Rattle.script_parse.proofs.Choices.{clash}
 
 -- no thread began
-pub record IsTop (part : Part) : Type 0 where
+pub record IsTop (part : ReadPart) : Type 0 where
   pub no_names : part.names.threads ≡ []
   pub no_threads : part.threads ≡ []
   pub no_blocks : part.open_blocks ≡ []
 
 -- a name that isn't declared yet, and has room
-record IsNew (part : Part) (kind : NameKind) (name : List ℕ) : Type 0 where
+record IsNew (part : ReadPart) (kind : NameKind) (name : List ℕ) : Type 0 where
   fresh : is_among name (all_names part.names) ≡ false
   few : nat_le 64 (length (list_of kind part.names)) ≡ false
 
 -- a line that declares can be taken
-record IsTaken (part : Part) (find : Finder) (n : ℕ) (meant : MeantForm) : Type 0 where
+record IsTaken (part : ReadPart) (find : Finder) (n : ℕ) (meant : MeantForm) : Type 0 where
   free : IsFree part find meant
   top : IsTop (with_form part find n meant)
 
-plain_top : (part : Part) (kind : NameKind) (name : List ℕ) → is_plain kind ≡ true → IsTop part
+plain_top : (part : ReadPart) (kind : NameKind) (name : List ℕ) → is_plain kind ≡ true → IsTop part
     → IsTop (reading.with_declared part kind name)
 plain_top part kinds.Mutex name p t = record {
   no_names = t.no_names;
@@ -65,7 +65,7 @@ plain_top part kinds.RwLock name p t = record {
 }
 plain_top part kind name p t = absurd cc
 
-valued_top : (part : Part) (kind : NameKind) (name : List ℕ) (value : ℤ) → has_value kind ≡ true
+valued_top : (part : ReadPart) (kind : NameKind) (name : List ℕ) (value : ℤ) → has_value kind ≡ true
     → IsTop part → IsTop (reading.with_first_value kind value
     (reading.with_declared part kind name))
 valued_top part kinds.Var name value p t = record {
@@ -85,10 +85,10 @@ valued_top part kinds.Barrier name value p t = record {
 }
 valued_top part kind name value p t = absurd cc
 
-no_thread_yet : (part : Part) → IsTop part → is_empty part.names.threads ≡ true
+no_thread_yet : (part : ReadPart) → IsTop part → is_empty part.names.threads ≡ true
 no_thread_yet part t = rw t.no_names refl
 
-declaration_taken : (version : ℕ) (part : Part) (find : Finder) (n : ℕ) → IsTop part
+declaration_taken : (version : ℕ) (part : ReadPart) (find : Finder) (n : ℕ) → IsTop part
     → (cut : TokenForm) (meant : MeantForm) → Means cut meant → IsFormOf version cut
     → declares meant ≡ true
     → ((kind : NameKind) (name : List ℕ) (more : List Token)
@@ -172,7 +172,7 @@ same_names a b c d e f g h i j k l m n p q r s t u v = rw (p, q, r, s, t, u, v) 
 
 same_part : (v w : ℕ) (ns ms : NameLists) (a b c d e f : List ℤ) (ts us : List ThreadTree)
     (os ps : List Open) → v ≡ w → ns ≡ ms → a ≡ b → c ≡ d → e ≡ f → ts ≡ us → os ≡ ps
-    → ◌≡◌ {A = Part} (record {
+    → ◌≡◌ {A = ReadPart} (record {
       version = v;
       names = ns;
       vars = a;
@@ -194,7 +194,7 @@ same_part v w ns ms a b c d e f ts us os ps p q r s t u x = rw (p, q, r, s, t, u
 
 module _ (script : ScriptText) (are_names : AreNames script.names) (find : Finder) where
   -- what was read of the script above its threads
-  abbrev pub top_part : Part
+  abbrev pub top_part : ReadPart
   top_part = record {
     version = script.version;
     names = record script.names { threads = [] };
@@ -206,7 +206,7 @@ module _ (script : ScriptText) (are_names : AreNames script.names) (find : Finde
   }
 
   -- what these lines and the rest declare is what the script has
-  pub record IsAbove (part : Part) (before low : List (List Token)) (texts : List (List ℕ)) : Type
+  pub record IsAbove (part : ReadPart) (before low : List (List Token)) (texts : List (List ℕ)) : Type
       0 where
     pub version : part.version ≡ script.version
     pub stands : Stands part before
@@ -217,7 +217,7 @@ module _ (script : ScriptText) (are_names : AreNames script.names) (find : Finde
     pub sems : values_of kinds.Sem (low ++ map tokens_in texts) ≡ script.sems
     pub barriers : values_of kinds.Barrier (low ++ map tokens_in texts) ≡ script.barriers
 
-  one_line : (part next : Part) (before low : List (List Token)) (text : List ℕ)
+  one_line : (part next : ReadPart) (before low : List (List Token)) (text : List ℕ)
       (texts : List (List ℕ)) → IsAbove part before low (text ∷ texts) → next.version ≡ part.version
       → Stands next (before ++ tokens_in text ∷ []) → AreValues next (low ++ tokens_in text ∷ [])
       → IsAbove next (before ++ tokens_in text ∷ []) (low ++ tokens_in text ∷ []) texts
@@ -236,7 +236,7 @@ module _ (script : ScriptText) (are_names : AreNames script.names) (find : Finde
       }
 
   -- what is declared and is still to come
-  parted : (part : Part) (before low : List (List Token)) (texts : List (List ℕ))
+  parted : (part : ReadPart) (before low : List (List Token)) (texts : List (List ℕ))
       → IsAbove part before low texts → (kind : NameKind)
       → list_of kind part.names ++ names_of kind (map tokens_in texts) ≡ list_of kind script.names
   parted part before low texts h kind =
@@ -244,7 +244,7 @@ module _ (script : ScriptText) (are_names : AreNames script.names) (find : Finde
       (sym (h.stands.names kind)) ∙ sym
       (filter_map-append (declared_name kind) before (map tokens_in texts)) ∙ h.names kind
 
-  is_new : (part : Part) (before low : List (List Token)) (text : List ℕ) (texts : List (List ℕ))
+  is_new : (part : ReadPart) (before low : List (List Token)) (text : List ℕ) (texts : List (List ℕ))
       → IsAbove part before low (text ∷ texts)
       → (kind : NameKind) (name : List ℕ) (more : List Token)
       → tokens_in text ≡ Word (kind_word kind) ∷ Word name ∷ more → IsNew part kind name
@@ -270,7 +270,7 @@ module _ (script : ScriptText) (are_names : AreNames script.names) (find : Finde
       }
 
   -- where no declaration is left, all was read
-  all_read : (part : Part) (before low : List (List Token)) (n : ℕ) (texts : List (List ℕ))
+  all_read : (part : ReadPart) (before low : List (List Token)) (n : ℕ) (texts : List (List ℕ))
       (rest : List Line) → IsTop part → IsAbove part before low texts
       → AreLines part.version n texts rest → list_all says_no_name rest ≡ true → part ≡ top_part
   all_read part before low n texts rest t h a q =
@@ -307,13 +307,13 @@ module _ (script : ScriptText) (are_names : AreNames script.names) (find : Finde
   line_first : (a b : Line) (xs ys : List Line) → a ∷ xs ≡ b ∷ ys → (a ≡ b) × (xs ≡ ys)
   line_first a b xs ys e = (cc, cc)
 
-  pub tops_run : (texts : List (List ℕ)) (n : ℕ) (part : Part) (top rest : List Line)
-      (before low : List (List Token)) (last : Part) → IsTop part → IsAbove part before low texts
+  pub tops_run : (texts : List (List ℕ)) (n : ℕ) (part : ReadPart) (top rest : List Line)
+      (before low : List (List Token)) (last : ReadPart) → IsTop part → IsAbove part before low texts
       → AreLines part.version n texts (top ++ rest) → All (λ line. declares line.1 ≡ true) top
       → list_all says_no_name rest ≡ true
       → Runs find top_part rest last → Runs find part (top ++ rest) last
   tops_run texts n part [] rest before low last t h a d q r =
-      subst (λ (p : Part). Runs find p rest last)
+      subst (λ (p : ReadPart). Runs find p rest last)
       (sym (all_read part before low n texts rest t h a q)) r
   tops_run [] n part (line ∷ top) rest before low last t h a d q r = absurd cc
   tops_run (text ∷ texts) n part (line ∷ top) rest before low last t h (inl a) d q r =
@@ -330,7 +330,7 @@ module _ (script : ScriptText) (are_names : AreNames script.names) (find : Finde
   tops_run (text ∷ texts) n part (line ∷ top) rest before low last t h (inr a) d q r =
       let meant : MeantForm = a.0 in
       let says : Says part.version text meant = a.3 in
-      let next : Part = with_form part find n meant in
+      let next : ReadPart = with_form part find n meant in
       let same = line_first line (n, meant) (top ++ rest) a.1 a.2 in
       let declared : declares meant ≡ true =
       ap (λ (l : Line). declares l.1) (sym same.0)

@@ -19,7 +19,7 @@ use Rattle.script_tree.specs.Lines.{tokens_in, is_blank_line, version_in, declar
 use Rattle.script_tree.specs.Lines.{just_thread, thread_in, threads_begun}
 use Rattle.script_tree.specs.Faults.{are_blank}
 use Rattle.script_tree.specs.Grammar.{IsLineText, Spells, all_thread_lines}
-use Rattle.script_parse.specs.Part.{Part}
+use Rattle.script_parse.specs.Part.{ReadPart}
 use Rattle.script_parse.specs.Reading.{Finder, is_empty, first_part, line_taken, script_from}
 use Rattle.script_parse.specs.Reading.{script_of, read_as_script}
 use Rattle.script_parse.proofs.Fresh.{all_front, all_back}
@@ -182,7 +182,7 @@ module _ (bytes : List ℕ) (script : ScriptText) (s : Spells bytes script) wher
     barriers = s.barriers;
   }
 
-  abbrev last : Part
+  abbrev last : ReadPart
   last =
       having script.names s.names.distinct (top_part script s.names find) script.names.threads
       script.threads []

@@ -18,7 +18,7 @@ pub record Open : Type 0 where
   pub done : List Statement
 
 -- what was read of a script, with its open blocks, the innermost first
-pub record Part : Type 0 where
+pub record ReadPart : Type 0 where
   pub version : ℕ
   pub names : NameLists
   pub vars : List ℤ

@@ -9,6 +9,12 @@ use Rattle.pct_ask.specs.Tokens.{Token, tokens_of}
 use Rattle.pct_ask.specs.NameLists.{NameLists, no_names, list_of, with_name, place_of}
 use Rattle.pct_ask.specs.declared.names.NameKind.{NameKind}
 use Rattle.pct_ask.specs.declared.names.NameKind.TheVariants as kinds
+use Rattle.pct_ask.specs.declared.statement_verbs.OnVerb.{OnVerb}
+use Rattle.pct_ask.specs.declared.statement_verbs.IntoVerb.{IntoVerb}
+use Rattle.pct_ask.specs.declared.statement_verbs.OnVerb.TheVariants as on_verbs
+use Rattle.pct_ask.specs.declared.statement_verbs.IntoVerb.TheVariants as into_verbs
+use Rattle.pct_ask.specs.declared.limits.TheConstants.{MAX_LINES}
+use Rattle.pct_ask.specs.StatementVerbs.{on_kind, into_kind}
 use Rattle.script_tree.specs.Trees.{Statement, Statements, closed_at}
 use Rattle.script_tree.specs.Trees as trees
 use Rattle.script_tree.specs.ScriptText.{ScriptText}
@@ -19,19 +25,14 @@ use Rattle.script_tree.specs.declared.fault.ScriptFault.TheVariants.{BadToken, B
 use Rattle.script_tree.specs.declared.fault.ScriptFault.TheVariants.{UnknownName, TwiceNamed}
 use Rattle.script_tree.specs.declared.fault.ScriptFault.TheVariants.{NumberRange, NoEnd, StrayEnd}
 use Rattle.script_tree.specs.declared.fault.ScriptFault.TheVariants.{NoThread, TooMany}
-use Rattle.script_tree.specs.declared.verb.OnVerb.{OnVerb}
-use Rattle.script_tree.specs.declared.verb.IntoVerb.{IntoVerb}
-use Rattle.script_tree.specs.Forms.{MeantForm, on_kind, into_kind, value_in}
-use Rattle.script_tree.specs.declared.verb.OnVerb.TheVariants as on_verbs
-use Rattle.script_tree.specs.declared.verb.IntoVerb.TheVariants as into_verbs
+use Rattle.script_tree.specs.Forms.{MeantForm, value_in}
 use Rattle.script_tree.specs.Forms as forms
 use Rattle.script_tree.specs.Lines.{version_in, threads_begun}
 use Rattle.script_tree.specs.Ranges.{is_out_of_range}
 use Rattle.script_tree.specs.Faults.{SoFar, are_blank, may_stand, uses_unknown, declares_again}
 use Rattle.script_tree.specs.Faults.{leaves_open, closes_nothing, lacks_thread, is_too_many}
-use Rattle.script_parse.specs.Part.{Opening, Thread, If, Else, While, Open, Part}
+use Rattle.script_parse.specs.Part.{Opening, Thread, If, Else, While, Open, ReadPart}
 use Rattle.script_parse.specs.Saying.{form_in}
-use Rattle.pct_ask.specs.declared.limits.TheConstants.{MAX_LINES}
 
 -- ---- what a form asks of what was read
 
@@ -50,7 +51,7 @@ is_in_if [] = false
 is_in_if (block ∷ blocks) = is_if block.opening
 
 -- what the lines that were read have declared and begun
-abbrev pub so_far_in : Part → SoFar
+abbrev pub so_far_in : ReadPart → SoFar
 so_far_in part = record {
   version = part.version;
   names = part.names;
@@ -73,7 +74,7 @@ abbrev pub is_known_name : NameLists → Finder → NameKind → List ℕ → Bo
 is_known_name names find kind name = is_some (place_in names find kind name)
 
 -- the first fault of a line of this form; `last` tells whether it is the last line
-abbrev pub form_fault : Part → Finder → Bool → List Token → MeantForm → Option ScriptFault
+abbrev pub form_fault : ReadPart → Finder → Bool → List Token → MeantForm → Option ScriptFault
 form_fault part find last tokens form =
     if not (may_stand (so_far_in part) form) then Some BadStatement
     else (if uses_unknown (is_known_name part.names find) form then Some UnknownName
@@ -134,17 +135,17 @@ with_statement statement [] = []
 with_statement statement (block ∷ blocks) =
     record block { done = block.done ++ statement ∷ [] } ∷ blocks
 
-abbrev pub part_with_statement : Part → Option Statement → Part
+abbrev pub part_with_statement : ReadPart → Option Statement → ReadPart
 part_with_statement part None = part
 part_with_statement part (Some statement) =
     record part { open_blocks = with_statement statement part.open_blocks }
 
-abbrev pub with_block : Part → Opening → Part
+abbrev pub with_block : ReadPart → Opening → ReadPart
 with_block part opening =
     record part { open_blocks = record { opening = opening; done = [] } ∷ part.open_blocks }
 
 -- a block that began so is closed
-abbrev pub closed_block : Part → Opening → Statements → Part
+abbrev pub closed_block : ReadPart → Opening → Statements → ReadPart
 closed_block part (Thread line) block =
     record part { threads = part.threads ++ record { line = line; body = block } ∷ [] }
 closed_block part (If line test) block = part_with_statement part (Some (trees.If line test block))
@@ -153,31 +154,31 @@ closed_block part (Else line test first) block =
 closed_block part (While line test) block =
     part_with_statement part (Some (trees.While line test block))
 
-abbrev pub with_end : Part → List Open → ℕ → Part
+abbrev pub with_end : ReadPart → List Open → ℕ → ReadPart
 with_end part [] line = part
 with_end part (block ∷ blocks) line =
     closed_block (record part { open_blocks = blocks }) block.opening (closed_at line block.done)
 
-abbrev pub turned_by : Part → Open → List Open → ℕ → Opening → Part
+abbrev pub turned_by : ReadPart → Open → List Open → ℕ → Opening → ReadPart
 turned_by part block blocks end (If line test) =
     with_block (record part { open_blocks = blocks }) (Else line test (closed_at end block.done))
 turned_by part block blocks end opening = part
 
-abbrev pub with_else : Part → List Open → ℕ → Part
+abbrev pub with_else : ReadPart → List Open → ℕ → ReadPart
 with_else part [] line = part
 with_else part (block ∷ blocks) line = turned_by part block blocks line block.opening
 
-abbrev pub with_first_value : NameKind → ℤ → Part → Part
+abbrev pub with_first_value : NameKind → ℤ → ReadPart → ReadPart
 with_first_value kinds.Var value part = record part { vars = part.vars ++ value ∷ [] }
 with_first_value kinds.Sem value part = record part { sems = part.sems ++ value ∷ [] }
 with_first_value kinds.Barrier value part = record part { barriers = part.barriers ++ value ∷ [] }
 with_first_value kind value part = part
 
-abbrev pub with_declared : Part → NameKind → List ℕ → Part
+abbrev pub with_declared : ReadPart → NameKind → List ℕ → ReadPart
 with_declared part kind name = record part { names = with_name kind name part.names }
 
 -- what was read, with a line of this form that has no fault
-abbrev pub with_form : Part → Finder → ℕ → MeantForm → Part
+abbrev pub with_form : ReadPart → Finder → ℕ → MeantForm → ReadPart
 with_form part find line (forms.Plain kind name) = with_declared part kind name
 with_form part find line (forms.Valued kind name value) =
     with_first_value kind (unwrap_or (value_in kind value) (pos 0)) (with_declared part kind name)
@@ -199,7 +200,7 @@ bytes_fault number line =
     else (if nat_lt MAX_LINES number then Some TooManyLines
     else None))
 
-abbrev pub first_part : ℕ → Part
+abbrev pub first_part : ℕ → ReadPart
 first_part version = record {
   version = version;
   names = no_names;
@@ -210,66 +211,66 @@ first_part version = record {
   open_blocks = [];
 }
 
-abbrev pub after_fault : Option ScriptFault → Part → Result Part ScriptFault
+abbrev pub after_fault : Option ScriptFault → ReadPart → Result ReadPart ScriptFault
 after_fault None next = Ok next
 after_fault (Some kind) next = Err kind
 
 -- a blank line: it may be the last one
-abbrev pub blank_fault : Part → Bool → Option ScriptFault
+abbrev pub blank_fault : ReadPart → Bool → Option ScriptFault
 blank_fault part last =
     if last && leaves_open (so_far_in part) [] then Some NoEnd
     else (if last && lacks_thread (so_far_in part) [] then Some NoThread else None)
 
-abbrev pub form_taken : Part → Finder → ℕ → Bool → List Token → Option MeantForm
-    → Result Part ScriptFault
+abbrev pub form_taken : ReadPart → Finder → ℕ → Bool → List Token → Option MeantForm
+    → Result ReadPart ScriptFault
 form_taken part find number last tokens None = Err BadStatement
 form_taken part find number last tokens (Some form) =
     after_fault (form_fault part find last tokens form) (with_form part find number form)
 
 -- a line below the header, by its tokens
-abbrev pub tokens_taken : Part → Finder → ℕ → Bool → Option (List Token) → Result Part ScriptFault
+abbrev pub tokens_taken : ReadPart → Finder → ℕ → Bool → Option (List Token) → Result ReadPart ScriptFault
 tokens_taken part find number last None = Err BadToken
 tokens_taken part find number last (Some []) = after_fault (blank_fault part last) part
 tokens_taken part find number last (Some (token ∷ tokens)) =
     form_taken part find number last (token ∷ tokens) (form_in part.version (token ∷ tokens))
 
-abbrev pub part_after_header : Bool → Option ℕ → Result Part ScriptFault
+abbrev pub part_after_header : Bool → Option ℕ → Result ReadPart ScriptFault
 part_after_header last None = Err BadHeader
 part_after_header last (Some version) = if last then Err NoThread else Ok (first_part version)
 
-abbrev pub some_part : Result Part ScriptFault → Result (Option Part) ScriptFault
+abbrev pub some_part : Result ReadPart ScriptFault → Result (Option ReadPart) ScriptFault
 some_part (Ok part) = Ok (Some part)
 some_part (Err kind) = Err kind
 
 -- the header, or a blank line above it
-abbrev pub header_taken : Bool → Option (List Token) → Result (Option Part) ScriptFault
+abbrev pub header_taken : Bool → Option (List Token) → Result (Option ReadPart) ScriptFault
 header_taken last None = Err BadHeader
 header_taken last (Some []) = Ok None
 header_taken last (Some (token ∷ tokens)) =
     some_part (part_after_header last (version_in (token ∷ tokens)))
 
-abbrev pub line_said : Option Part → Finder → ℕ → Bool → Option (List Token)
-    → Result (Option Part) ScriptFault
+abbrev pub line_said : Option ReadPart → Finder → ℕ → Bool → Option (List Token)
+    → Result (Option ReadPart) ScriptFault
 line_said None find number last tokens = header_taken last tokens
 line_said (Some part) find number last tokens =
     some_part (tokens_taken part find number last tokens)
 
 -- the fault of a line that can't be cut into tokens, by what was read
-abbrev pub uncut_fault : Option Part → ScriptFault
+abbrev pub uncut_fault : Option ReadPart → ScriptFault
 uncut_fault None = BadHeader
 uncut_fault (Some part) = BadToken
 
-abbrev pub unless : Option ScriptFault → Result (Option Part) ScriptFault
-    → Result (Option Part) ScriptFault
+abbrev pub unless : Option ScriptFault → Result (Option ReadPart) ScriptFault
+    → Result (Option ReadPart) ScriptFault
 unless None next = next
 unless (Some kind) next = Err kind
 
 -- one more line; what was read is none above the header
-abbrev pub line_taken : Option Part → Finder → ℕ → Bool → List ℕ → Result (Option Part) ScriptFault
+abbrev pub line_taken : Option ReadPart → Finder → ℕ → Bool → List ℕ → Result (Option ReadPart) ScriptFault
 line_taken part find number last line =
     unless (bytes_fault number line) (line_said part find number last (tokens_of line))
 
-abbrev pub script_of : Part → ScriptText
+abbrev pub script_of : ReadPart → ScriptText
 script_of part = record {
   version = part.version;
   names = part.names;
@@ -279,17 +280,17 @@ script_of part = record {
   threads = part.threads;
 }
 
-abbrev pub script_at_end : Option Part → Result ScriptText (ℕ × ScriptFault)
+abbrev pub script_at_end : Option ReadPart → Result ScriptText (ℕ × ScriptFault)
 script_at_end None = Err (1, BadHeader)
 script_at_end (Some part) = Ok (script_of part)
 
 -- the script after these lines, of which the first has this number, or the first fault
-abbrev pub then_read : ℕ → Result (Option Part) ScriptFault
-    → (Option Part → Result ScriptText (ℕ × ScriptFault)) → Result ScriptText (ℕ × ScriptFault)
+abbrev pub then_read : ℕ → Result (Option ReadPart) ScriptFault
+    → (Option ReadPart → Result ScriptText (ℕ × ScriptFault)) → Result ScriptText (ℕ × ScriptFault)
 then_read number (Err kind) more = Err (number, kind)
 then_read number (Ok next) more = more next
 
-abbrev pub script_from : Finder → Option Part → ℕ → List (List ℕ)
+abbrev pub script_from : Finder → Option ReadPart → ℕ → List (List ℕ)
     → Result ScriptText (ℕ × ScriptFault)
 script_from find part number [] = script_at_end part
 script_from find part number (line ∷ lines) =

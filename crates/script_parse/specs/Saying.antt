@@ -8,13 +8,13 @@ use Rattle.pct_ask.specs.Words.{is_name}
 use Rattle.pct_ask.specs.Tokens.{Token, Word, Number, Symbol}
 use Rattle.pct_ask.specs.declared.names.NameKind.{NameKind}
 use Rattle.pct_ask.specs.declared.names.NameKind.TheVariants as kinds
-use Rattle.script_tree.specs.declared.verb.OnVerb.{OnVerb}
-use Rattle.script_tree.specs.declared.verb.IntoVerb.{IntoVerb}
-use Rattle.script_tree.specs.Forms.{MeantForm, Plain, Valued, Thread, On, Into, Write, on_verb_in}
-use Rattle.script_tree.specs.Forms.{into_verb_in, Add, Cas, Wait, Yield, Assert, Set, If, While}
-use Rattle.script_tree.specs.Forms.{End, Else, is_plain, has_value, kind_since, on_since}
-use Rattle.script_tree.specs.Forms.{into_since}
+use Rattle.pct_ask.specs.declared.statement_verbs.OnVerb.{OnVerb}
+use Rattle.pct_ask.specs.declared.statement_verbs.IntoVerb.{IntoVerb}
 use Rattle.pct_ask.specs.Words.{register_in}
+use Rattle.pct_ask.specs.StatementVerbs.{on_verb_in, into_verb_in, on_since, into_since}
+use Rattle.script_tree.specs.Forms.{MeantForm, Plain, Valued, Thread, On, Into, Write, Add, Cas}
+use Rattle.script_tree.specs.Forms.{Wait, Yield, Assert, Set, If, While, End, Else, is_plain}
+use Rattle.script_tree.specs.Forms.{has_value, kind_since}
 use Rattle.script_parse.specs.Machine.{expression_in}
 use Rattle.script_parse.specs.Words.{kind_in}
 

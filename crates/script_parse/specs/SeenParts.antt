@@ -21,7 +21,7 @@ seen_block b = record { opening = seen_opening b.opening; done = statements b.st
 abbrev pub seen_blocks : List OpenBlock → List parts.Open
 seen_blocks blocks = reverse (map seen_block blocks)
 
-abbrev pub seen_reader : Reader → parts.Part
+abbrev pub seen_reader : Reader → parts.ReadPart
 seen_reader r = record {
   version = r.version;
   names = r.names;

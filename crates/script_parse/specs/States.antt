@@ -5,7 +5,7 @@ use Rattle.script_tree.specs.ScriptSeen.{plain_script}
 use Rattle.script_tree.specs.declared.script.Script.{Script}
 use Rattle.script_tree.specs.declared.fault.ScriptFault.{ScriptFault}
 use Rattle.script_tree.specs.Faults.{IsFault}
-use Rattle.script_parse.specs.Part.{Part}
+use Rattle.script_parse.specs.Part.{ReadPart}
 use Rattle.script_parse.specs.SeenParts.{seen_reader}
 use Rattle.script_parse.specs.declared.fault.ScriptError.{ScriptError}
 use Rattle.script_parse.specs.declared.fault.ScriptError.TheVariants as errors
@@ -14,11 +14,11 @@ use Rattle.script_parse.specs.declared.parsing.Progress.TheVariants as states
 use Rattle.script_parse.specs.declared.parsing.AfterLine.{AfterLine}
 use Rattle.script_parse.specs.declared.parsing.AfterLine.TheVariants as steps
 
-abbrev pub seen_state : Progress → Option Part
+abbrev pub seen_state : Progress → Option ReadPart
 seen_state states.Above = None
 seen_state (states.Below reader) = Some (seen_reader reader)
 
-abbrev pub seen_step : AfterLine → Result (Option Part) ScriptFault
+abbrev pub seen_step : AfterLine → Result (Option ReadPart) ScriptFault
 seen_step (steps.Next state) = Ok (seen_state state)
 seen_step (steps.Bad kind) = Err kind
 

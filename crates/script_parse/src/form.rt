@@ -13,8 +13,7 @@ use crate::declaration::{declared_form, kind_of};
 use crate::expression::{expression_of, says};
 use crate::spelling::Spelling;
 use crate::token::Token;
-use pct_ask::{NameKind, is_lawful_name, register_of};
-use script_tree::{IntoVerb, OnVerb};
+use pct_ask::{IntoVerb, NameKind, OnVerb, is_lawful_name, register_of};
 use std::alloc::{AllocError as NoMemory, Global};
 
 /// What a line says.

@@ -13,8 +13,8 @@ ghost use Rattle.script_parse.specs.Reading as reading;
 use crate::ahead::Lookahead;
 use crate::form::Form;
 use crate::spelling::expression_at;
-use pct_ask::{NameKind, Names};
-use script_tree::{Expr, IntoVerb, OnVerb, Stmt};
+use pct_ask::{IntoVerb, NameKind, Names, OnVerb};
+use script_tree::{Expr, Stmt};
 use std::alloc::{AllocError as NoMemory, Global};
 
 /// Where a name of a kind stands among those of its kind: a thread's among those of the whole text.

@@ -9,9 +9,13 @@ use Rattle.pct_ask.specs.Tokens.{Token, Word, Symbol}
 use Rattle.pct_ask.specs.declared.names.NameKind.{NameKind}
 use Rattle.pct_ask.specs.declared.names.NameKind.TheVariants as kinds
 use Rattle.pct_ask.specs.Words.{register_word}
+use Rattle.pct_ask.specs.declared.statement_verbs.OnVerb.TheVariants as on_verbs
+use Rattle.pct_ask.specs.declared.statement_verbs.IntoVerb.TheVariants as into_verbs
+use Rattle.pct_ask.specs.StatementVerbs.{on_word, into_word, on_since, into_since}
+use Rattle.pct_ask.specs.declared.statement_verbs.OnVerb.{OnVerb}
+use Rattle.pct_ask.specs.declared.statement_verbs.IntoVerb.{IntoVerb}
 use Rattle.script_tree.specs.Forms.{TokenForm, MeantForm, Plain, Valued, Thread, On, Into, Write}
 use Rattle.script_tree.specs.Forms.{Add, Cas, Wait, Yield, Assert, Set, If, While, End, Else}
-use Rattle.script_tree.specs.Forms.{OnVerb, IntoVerb, on_word, into_word, on_since, into_since}
 use Rattle.script_tree.specs.Forms.{kind_word, kind_since, has_value, is_plain, value_in}
 use Rattle.script_tree.specs.Forms.{tokens_of_form, Means, IsNameIn, IsFormOf}
 use Rattle.script_tree.specs.Forms as forms
@@ -85,11 +89,11 @@ name_cut : (version : ℕ) (name : List ℕ) → IsNameIn version name → IsCut
 name_cut version name lawful = word_cut name (name_is_word version name lawful)
 
 on_is_word : (verb : OnVerb) → is_word (on_word verb) ≡ true
-on_is_word forms.Lock = refl
+on_is_word on_verbs.Lock = refl
 on_is_word verb = refl
 
 into_is_word : (verb : IntoVerb) → is_word (into_word verb) ≡ true
-into_is_word forms.Read = refl
+into_is_word into_verbs.Read = refl
 into_is_word verb = refl
 
 kind_is_word : (kind : NameKind) → is_word (kind_word kind) ≡ true

@@ -10,9 +10,13 @@ use Rattle.pct_ask.specs.Tokens.{Token, Word, Number, Symbol}
 use Rattle.pct_ask.specs.NameLists.{NameLists, list_of}
 use Rattle.pct_ask.specs.declared.names.NameKind.{NameKind}
 use Rattle.pct_ask.specs.declared.names.NameKind.TheVariants as kinds
+use Rattle.pct_ask.specs.declared.statement_verbs.OnVerb.TheVariants as on_verbs
+use Rattle.pct_ask.specs.declared.statement_verbs.IntoVerb.TheVariants as into_verbs
+use Rattle.pct_ask.specs.StatementVerbs.{on_word, into_word}
+use Rattle.pct_ask.specs.declared.statement_verbs.OnVerb.{OnVerb}
+use Rattle.pct_ask.specs.declared.statement_verbs.IntoVerb.{IntoVerb}
 use Rattle.script_tree.specs.ScriptText.{ScriptText, Thread}
-use Rattle.script_tree.specs.Forms.{MeantForm, OnVerb, IntoVerb, on_word, into_word, kind_word}
-use Rattle.script_tree.specs.Forms.{value_in, tokens_of_form}
+use Rattle.script_tree.specs.Forms.{MeantForm, kind_word, value_in, tokens_of_form}
 use Rattle.script_tree.specs.Forms as forms
 use Rattle.script_tree.specs.Lines.{tokens_in, declared_name, names_of, declared_value, values_of}
 use Rattle.script_tree.specs.Grammar.{Line, block_lines, thread_lines, all_thread_lines}
@@ -87,11 +91,11 @@ declared_value-none kind word (Number digits ∷ tokens) h = refl
 declared_value-none kind word (Symbol signs ∷ tokens) h = refl
 
 on_no_kind : (verb : OnVerb) → is_no_kind (on_word verb) ≡ true
-on_no_kind forms.Lock = refl
+on_no_kind on_verbs.Lock = refl
 on_no_kind verb = refl
 
 into_no_kind : (verb : IntoVerb) → is_no_kind (into_word verb) ≡ true
-into_no_kind forms.Read = refl
+into_no_kind into_verbs.Read = refl
 into_no_kind verb = refl
 
 -- the first word of a line inside a thread

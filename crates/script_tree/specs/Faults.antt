@@ -12,17 +12,17 @@ use Rattle.pct_ask.specs.Words.{is_among}
 use Rattle.pct_ask.specs.NameLists.{NameLists, list_of, all_names}
 use Rattle.pct_ask.specs.declared.names.NameKind.{NameKind}
 use Rattle.pct_ask.specs.declared.names.NameKind.TheVariants as kinds
+use Rattle.pct_ask.specs.declared.limits.TheConstants.{MAX_LINES, MAX_OBJECTS}
+use Rattle.pct_ask.specs.StatementVerbs.{on_kind, into_kind}
 use Rattle.script_tree.specs.declared.fault.ScriptFault.{ScriptFault}
 use Rattle.script_tree.specs.declared.fault.ScriptFault.TheVariants as faults
 use Rattle.script_tree.specs.Forms.{TokenForm, MeantForm, Plain, Valued, Thread, On, Into, Write}
-use Rattle.script_tree.specs.Forms.{Add, Cas}
-use Rattle.script_tree.specs.Forms.{Wait, If, While, End, Else, IsForm, on_kind, into_kind}
+use Rattle.script_tree.specs.Forms.{Add, Cas, Wait, If, While, End, Else, IsForm}
 use Rattle.script_tree.specs.Ranges.{is_out_of_range}
 use Rattle.script_tree.specs.Fitting.{most_threads}
 use Rattle.script_tree.specs.Lines.{tokens_in, is_blank_line, version_in, version_of, begins_with}
 use Rattle.script_tree.specs.Lines.{opens}
 use Rattle.script_tree.specs.Lines.{declared_name, names_of, depth, opener, threads_begun}
-use Rattle.pct_ask.specs.declared.limits.TheConstants.{MAX_LINES, MAX_OBJECTS}
 
 -- a line in its text, with the lines before it and those after it
 pub record Place : Type 0 where

@@ -1,24 +1,18 @@
 -- The forms that a line may have, each with its tokens (this project).
 use Rattle.std.specs.Prelude.{◌≡◌, ℕ, ℤ, pos, neg_ℤ, ◌<◌, ◌≤◌, Bool, true, false, if◌then◌else◌}
 use Rattle.std.specs.Prelude.{List, [], ◌∷◌, ◌++◌, Option, Some, None, is_some, codes}
-use Rattle.std.specs.List.{find}
 use Rattle.std.specs.Str.{bytes_eq}
 use Rattle.std.specs.Str.Parse.{digits_value}
 use Rattle.pct_ask.specs.Words.{is_name}
 use Rattle.pct_ask.specs.Tokens.{Token, Word, Number, Symbol}
 use Rattle.pct_ask.specs.declared.names.NameKind.{NameKind}
 use Rattle.pct_ask.specs.declared.names.NameKind.TheVariants as kinds
+use Rattle.pct_ask.specs.declared.statement_verbs.OnVerb.{OnVerb}
+use Rattle.pct_ask.specs.declared.statement_verbs.IntoVerb.{IntoVerb}
+use Rattle.pct_ask.specs.StatementVerbs.{on_word, on_since, into_word, into_since}
+use Rattle.pct_ask.specs.Words.{register_word, register_count}
 use Rattle.script_tree.specs.Trees.{Expression}
 use Rattle.script_tree.specs.Expressions.{IsExpression}
-use Rattle.pct_ask.specs.Words.{register_word, register_count}
-use Rattle.script_tree.specs.declared.verb.TheConstants.{ON_VERBS, INTO_VERBS}
-pub use Rattle.script_tree.specs.declared.verb.OnVerb.{OnVerb}
-pub use Rattle.script_tree.specs.declared.verb.OnVerb.TheVariants.{Lock, Unlock, Signal, Broadcast}
-pub use Rattle.script_tree.specs.declared.verb.OnVerb.TheVariants.{Down, Up, Join, Start, RdLock}
-pub use Rattle.script_tree.specs.declared.verb.OnVerb.TheVariants.{WrLock, RwUnlock}
-pub use Rattle.script_tree.specs.declared.verb.IntoVerb.{IntoVerb}
-pub use Rattle.script_tree.specs.declared.verb.IntoVerb.TheVariants.{Read, TryLock, TryDown, Arrive}
-pub use Rattle.script_tree.specs.declared.verb.IntoVerb.TheVariants.{TryRdLock, TryWrLock}
 
 -- What a line says: above the threads a declaration, with or without a first value; outside a
 -- thread the beginning of one; inside a thread a statement, whose expressions are of this type.
@@ -47,72 +41,6 @@ TokenForm = Form (List Token)
 -- a form as it is meant
 abbrev pub MeantForm : Type 0
 MeantForm = Form Expression
-
--- a row of the table of verbs: the keyword, the kind of the one object or thread that the statement
--- names, and the first version of the language that has it
-pub record Row : Type 0 where
-  pub word : List ℕ
-  pub kind : NameKind
-  pub since : ℕ
-
--- the row of these
-abbrev pub row : List ℕ → NameKind → ℕ → Row
-row word kind since = record { word = word; kind = kind; since = since }
-
--- the row of a statement on one object
-abbrev pub on_row : OnVerb → Row
-on_row Lock = row (codes "lock") kinds.Mutex 1
-on_row Unlock = row (codes "unlock") kinds.Mutex 1
-on_row Signal = row (codes "signal") kinds.Cond 1
-on_row Broadcast = row (codes "broadcast") kinds.Cond 1
-on_row Down = row (codes "down") kinds.Sem 1
-on_row Up = row (codes "up") kinds.Sem 1
-on_row Join = row (codes "join") kinds.Thread 1
-on_row Start = row (codes "start") kinds.Thread 2
-on_row RdLock = row (codes "rdlock") kinds.RwLock 3
-on_row WrLock = row (codes "wrlock") kinds.RwLock 3
-on_row RwUnlock = row (codes "rwunlock") kinds.RwLock 3
-
--- the row of a statement whose answer goes into a register
-abbrev pub into_row : IntoVerb → Row
-into_row Read = row (codes "read") kinds.Var 1
-into_row TryLock = row (codes "trylock") kinds.Mutex 1
-into_row TryDown = row (codes "trydown") kinds.Sem 1
-into_row Arrive = row (codes "arrive") kinds.Barrier 1
-into_row TryRdLock = row (codes "tryrdlock") kinds.RwLock 3
-into_row TryWrLock = row (codes "trywrlock") kinds.RwLock 3
-
--- the keyword of a statement on one object
-abbrev pub on_word : OnVerb → List ℕ
-on_word verb = (on_row verb).word
-
--- the kind of the one object, or thread, that the statement names
-abbrev pub on_kind : OnVerb → NameKind
-on_kind verb = (on_row verb).kind
-
--- the first version of the language that has a statement on one object
-abbrev pub on_since : OnVerb → ℕ
-on_since verb = (on_row verb).since
-
--- the keyword of a statement whose answer goes into a register
-abbrev pub into_word : IntoVerb → List ℕ
-into_word verb = (into_row verb).word
-
--- the kind of the object whose answer goes into the register
-abbrev pub into_kind : IntoVerb → NameKind
-into_kind verb = (into_row verb).kind
-
--- the first version of the language that has a statement into a register
-abbrev pub into_since : IntoVerb → ℕ
-into_since verb = (into_row verb).since
-
--- the statement on one object that begins with this word
-abbrev pub on_verb_in : List ℕ → Option OnVerb
-on_verb_in word = find (λ verb. bytes_eq word (on_word verb)) ON_VERBS.now
-
--- the statement into a register that begins with this word
-abbrev pub into_verb_in : List ℕ → Option IntoVerb
-into_verb_in word = find (λ verb. bytes_eq word (into_word verb)) INTO_VERBS.now
 
 -- the keyword that declares a name of this kind
 abbrev pub kind_word : NameKind → List ℕ

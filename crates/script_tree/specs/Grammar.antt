@@ -8,6 +8,9 @@ use Rattle.pct_ask.specs.NameLists.{NameLists, AreNames, list_of}
 use Rattle.pct_ask.specs.TraceText.{name_at}
 use Rattle.pct_ask.specs.declared.names.NameKind.{NameKind}
 use Rattle.pct_ask.specs.declared.names.NameKind.TheVariants as kinds
+use Rattle.pct_ask.specs.declared.limits.TheConstants.{MAX_LINES}
+use Rattle.pct_ask.specs.declared.statement_verbs.OnVerb.TheVariants as on_verbs
+use Rattle.pct_ask.specs.declared.statement_verbs.IntoVerb.TheVariants as into_verbs
 use Rattle.script_tree.specs.Trees.{Statement, Statements, Closed, Then}
 use Rattle.script_tree.specs.Trees as trees
 use Rattle.script_tree.specs.ScriptText.{ScriptText, Thread}
@@ -16,7 +19,6 @@ use Rattle.script_tree.specs.Ranges.{is_out_of_range}
 use Rattle.script_tree.specs.Forms as forms
 use Rattle.script_tree.specs.Forms.{TokenForm, MeantForm, On, Into, IsForm}
 use Rattle.script_tree.specs.Lines.{tokens_in, is_blank_line, version_in, names_of, values_of}
-use Rattle.pct_ask.specs.declared.limits.TheConstants.{MAX_LINES}
 
 -- a line that says something: its number, and what it means
 abbrev pub Line : Type 0
@@ -27,7 +29,7 @@ abbrev mutual
   -- blocks
   pub statement_lines : NameLists → Statement → List Line
   statement_lines names (trees.Read line reg var) =
-      (line, Into forms.Read reg (name_at names.vars var)) ∷ []
+      (line, Into into_verbs.Read reg (name_at names.vars var)) ∷ []
   statement_lines names (trees.Write line var value) =
       (line, forms.Write (name_at names.vars var) value) ∷ []
   statement_lines names (trees.Add line reg var value) =
@@ -35,25 +37,26 @@ abbrev mutual
   statement_lines names (trees.Cas line reg var old new) =
       (line, forms.Cas reg (name_at names.vars var) old new) ∷ []
   statement_lines names (trees.Lock line mutex) =
-      (line, On forms.Lock (name_at names.mutexes mutex)) ∷ []
+      (line, On on_verbs.Lock (name_at names.mutexes mutex)) ∷ []
   statement_lines names (trees.TryLock line reg mutex) =
-      (line, Into forms.TryLock reg (name_at names.mutexes mutex)) ∷ []
+      (line, Into into_verbs.TryLock reg (name_at names.mutexes mutex)) ∷ []
   statement_lines names (trees.Unlock line mutex) =
-      (line, On forms.Unlock (name_at names.mutexes mutex)) ∷ []
+      (line, On on_verbs.Unlock (name_at names.mutexes mutex)) ∷ []
   statement_lines names (trees.Wait line cond mutex) =
       (line, forms.Wait (name_at names.conds cond) (name_at names.mutexes mutex)) ∷ []
   statement_lines names (trees.Signal line cond) =
-      (line, On forms.Signal (name_at names.conds cond)) ∷ []
+      (line, On on_verbs.Signal (name_at names.conds cond)) ∷ []
   statement_lines names (trees.Broadcast line cond) =
-      (line, On forms.Broadcast (name_at names.conds cond)) ∷ []
-  statement_lines names (trees.Down line sem) = (line, On forms.Down (name_at names.sems sem)) ∷ []
+      (line, On on_verbs.Broadcast (name_at names.conds cond)) ∷ []
+  statement_lines names (trees.Down line sem) =
+      (line, On on_verbs.Down (name_at names.sems sem)) ∷ []
   statement_lines names (trees.TryDown line reg sem) =
-      (line, Into forms.TryDown reg (name_at names.sems sem)) ∷ []
-  statement_lines names (trees.Up line sem) = (line, On forms.Up (name_at names.sems sem)) ∷ []
+      (line, Into into_verbs.TryDown reg (name_at names.sems sem)) ∷ []
+  statement_lines names (trees.Up line sem) = (line, On on_verbs.Up (name_at names.sems sem)) ∷ []
   statement_lines names (trees.Arrive line reg barrier) =
-      (line, Into forms.Arrive reg (name_at names.barriers barrier)) ∷ []
+      (line, Into into_verbs.Arrive reg (name_at names.barriers barrier)) ∷ []
   statement_lines names (trees.Join line thread) =
-      (line, On forms.Join (name_at names.threads thread)) ∷ []
+      (line, On on_verbs.Join (name_at names.threads thread)) ∷ []
   statement_lines names (trees.Yield line) = (line, forms.Yield) ∷ []
   statement_lines names (trees.Assert line test) = (line, forms.Assert test) ∷ []
   statement_lines names (trees.Set line reg value) = (line, forms.Set reg value) ∷ []
@@ -65,17 +68,17 @@ abbrev mutual
   statement_lines names (trees.While line test body) =
       (line, forms.While test) ∷ block_lines names forms.End body
   statement_lines names (trees.Start line thread) =
-      (line, On forms.Start (name_at names.threads thread)) ∷ []
+      (line, On on_verbs.Start (name_at names.threads thread)) ∷ []
   statement_lines names (trees.RdLock line rwlock) =
-      (line, On forms.RdLock (name_at names.rwlocks rwlock)) ∷ []
+      (line, On on_verbs.RdLock (name_at names.rwlocks rwlock)) ∷ []
   statement_lines names (trees.WrLock line rwlock) =
-      (line, On forms.WrLock (name_at names.rwlocks rwlock)) ∷ []
+      (line, On on_verbs.WrLock (name_at names.rwlocks rwlock)) ∷ []
   statement_lines names (trees.TryRdLock line reg rwlock) =
-      (line, Into forms.TryRdLock reg (name_at names.rwlocks rwlock)) ∷ []
+      (line, Into into_verbs.TryRdLock reg (name_at names.rwlocks rwlock)) ∷ []
   statement_lines names (trees.TryWrLock line reg rwlock) =
-      (line, Into forms.TryWrLock reg (name_at names.rwlocks rwlock)) ∷ []
+      (line, Into into_verbs.TryWrLock reg (name_at names.rwlocks rwlock)) ∷ []
   statement_lines names (trees.RwUnlock line rwlock) =
-      (line, On forms.RwUnlock (name_at names.rwlocks rwlock)) ∷ []
+      (line, On on_verbs.RwUnlock (name_at names.rwlocks rwlock)) ∷ []
 
   -- the lines of statements, and the line that closes them
   pub block_lines : NameLists → MeantForm → Statements → List Line

@@ -6,11 +6,12 @@ use Rattle.pct_ask.specs.Tokens.{Token, Word, Number, Symbol}
 use Rattle.pct_ask.specs.declared.names.NameKind.{NameKind}
 use Rattle.pct_ask.specs.declared.names.NameKind.TheVariants as kinds
 use Rattle.pct_ask.specs.Lines.{text_of_lines}
+use Rattle.pct_ask.specs.Words.{register_word}
+use Rattle.pct_ask.specs.StatementVerbs.{on_word, into_word}
 use Rattle.script_tree.specs.Trees.{Expression}
 use Rattle.script_tree.specs.Trees as trees
 use Rattle.script_tree.specs.Expressions.{signs_of}
-use Rattle.pct_ask.specs.Words.{register_word}
-use Rattle.script_tree.specs.Forms.{MeantForm, kind_word, on_word, into_word}
+use Rattle.script_tree.specs.Forms.{MeantForm, kind_word}
 use Rattle.script_tree.specs.Forms as forms
 use Rattle.script_tree.specs.Grammar.{Line, all_thread_lines}
 use Rattle.script_tree.specs.ScriptText.{ScriptText}

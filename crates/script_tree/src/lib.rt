@@ -7,8 +7,6 @@
 //!   values: `Script`: `sound` (`IsScript`); `Script::names`; `Script::deal` (`IsDealOf`).
 //! - `print_script` gives the canonical layout, which within the limits spells the same script with
 //!   the lines of the print: `print_script`: `layout`, `spelled`.
-//! - The verbs' table is that of the language, and each verb is found by its word: `OnVerb::row`,
-//!   `OnVerb::of`, `IntoVerb::row`, `IntoVerb::of` (`on_row`, `into_row`).
 #![tactic(auto)]
 
 mod expr;
@@ -18,11 +16,9 @@ mod printing_statements;
 mod printing_words;
 mod script;
 mod stmt;
-mod verb;
 
 pub use expr::{Expr, Op};
 pub use fault::ScriptFault;
 pub use printing::print_script;
 pub use script::Script;
 pub use stmt::{Block, Stmt, ThreadText};
-pub use verb::{INTO_VERBS, IntoVerb, ON_VERBS, OnVerb, VerbRow};

@@ -7,7 +7,7 @@ ghost use Rattle.script_tree.specs.Trees.{has_no_block, statement_list};
 ghost use Rattle.script_tree.specs.Seen.{expression, statement, block};
 ghost use Rattle.pct_ask.specs.Words.{register_word};
 ghost use Rattle.pct_ask.specs.TraceText.{name_at};
-ghost use Rattle.script_tree.specs.Forms.{on_word, on_kind, into_word, into_kind};
+ghost use Rattle.pct_ask.specs.StatementVerbs.{on_word, on_kind, into_word, into_kind};
 ghost use Rattle.script_tree.specs.Grammar.{statement_lines};
 ghost use Rattle.script_tree.specs.Layout.{spaced_words, expression_text};
 ghost use Rattle.script_tree.specs.Printing.{printed_lines, are_ranged, is_ranged, names_one};
@@ -15,8 +15,7 @@ ghost use Rattle.script_tree.specs.Printing.{printed_lines, are_ranged, is_range
 use crate::expr::Expr;
 use crate::printing_words::{push_expression, push_last, push_spaced};
 use crate::stmt::{Block, Stmt};
-use crate::verb::{IntoVerb, OnVerb};
-use pct_ask::{NameKind, Names, name_at, register_word};
+use pct_ask::{IntoVerb, NameKind, Names, OnVerb, name_at, register_word};
 use std::alloc::AllocError as NoMemory;
 
 #[cycle(printing)]

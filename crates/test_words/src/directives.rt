@@ -1,6 +1,7 @@
 use crate::samples::names_of;
 use directive::{
-    Directive, DirectiveError, DirectiveFault, one_answer, read_directive, write_directive,
+    Directive, DirectiveError, DirectiveFault, are_known_moments, one_answer, read_directive,
+    write_directive,
 };
 use pct_ask::{NameKind, Names, Verdict};
 use policy_pick::{Moment, MomentList};
@@ -28,6 +29,33 @@ const FAILED: Verdict = Verdict::Failed {
     thread: 2,
     line: 15,
 };
+
+/// Moments that can't be written: the numbers 0 and 100,001, and a thread without a name.
+const UNKNOWN_MOMENTS: [Moment; 3] = [
+    Moment {
+        thread: 0,
+        number: 0,
+    },
+    Moment {
+        thread: 0,
+        number: 100_001,
+    },
+    Moment {
+        thread: 3,
+        number: 1,
+    },
+];
+
+#[test]
+fn moments_to_write(rt: HostRuntime) -> Result<(), Fail> {
+    let names = names_of(&rt, rt.alloc(), &NAMES, &[])?;
+    assert!(rt; are_known_moments(&names, &[FIRST]));
+    for moment in &UNKNOWN_MOMENTS {
+        assert!(rt; !are_known_moments(&names, &[FIRST, *moment]), "{moment:?}");
+    }
+    drop(names);
+    Ok(())
+}
 
 /// What is written of the directive.
 fn lost_update(rt: &impl Abort, alloc: Global, names: &Names) -> Result<Vec<u8>, Fail> {

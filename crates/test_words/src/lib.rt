@@ -19,4 +19,6 @@ mod sweeps;
 #[cfg(test)]
 mod traces;
 #[cfg(test)]
+mod verdicts;
+#[cfg(test)]
 mod words;

@@ -1,8 +1,8 @@
-//! Registers, letters, and what is written behind a space.
+//! Registers, letters, verbs, and what is written behind a space.
 use crate::samples::names_of;
 use pct_ask::{
-    NameKind, is_letter, is_word_byte, name_at, register_of, register_word, write_spaced_number,
-    write_spaced_word,
+    IntoVerb, NameKind, OnVerb, Verb, is_letter, is_word_byte, name_at, register_of, register_word,
+    verb_in, write_spaced_number, write_spaced_word,
 };
 use std::test::Fail;
 
@@ -31,6 +31,18 @@ fn letters(rt: HostRuntime) {
         assert_eq!(rt; is_letter(*byte), *begins, "{byte}");
         assert_eq!(rt; is_word_byte(*byte), *goes_on, "{byte}");
     }
+}
+
+#[test]
+fn verbs(rt: HostRuntime) {
+    assert!(rt; verb_in(1, b"rdlock").is_none());
+    assert!(rt; matches!(verb_in(2, b"rdlock"), Some(Verb::RdLock)));
+    assert!(rt; verb_in(2, b"start ").is_none());
+    assert!(rt; matches!(OnVerb::of(b"start"), Some(OnVerb::Start)));
+    assert!(rt; IntoVerb::of(b"start").is_none());
+    assert!(rt; matches!(IntoVerb::of(b"tryrdlock"), Some(IntoVerb::TryRdLock)));
+    assert_eq!(rt; OnVerb::Start.row().since, 2);
+    assert_eq!(rt; IntoVerb::TryDown.row().kind, NameKind::Sem);
 }
 
 #[test]

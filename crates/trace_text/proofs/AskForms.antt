@@ -10,25 +10,27 @@ use Rattle.pct_ask.specs.declared.ask.FaultKind.{FaultKind}
 use Rattle.pct_ask.specs.declared.ask.FaultKind.TheVariants.{Overflow, ZeroDivisor, Spin}
 use Rattle.pct_ask.specs.declared.ask.Ask.{Ask}
 use Rattle.pct_ask.proofs.laws.VerdictForms.{fault_word-read}
-use Rattle.trace_text.specs.Verbs.{verb_operands, verb_word, verb_in, listed, mapped, Each, SomeOf}
+use Rattle.pct_ask.specs.declared.trace_verbs.Verb.{Verb}
+use Rattle.pct_ask.specs.declared.trace_verbs.OperandKind.{OperandKind}
+use Rattle.pct_ask.specs.declared.trace_verbs.OperandKind.TheVariants as kinds
+use Rattle.pct_ask.specs.declared.trace_verbs.Operands.{Operands}
+use Rattle.pct_ask.specs.declared.trace_verbs.Operands.TheVariants.{Bare, One, Two, Three}
+use Rattle.pct_ask.specs.TraceVerbs.{verb_operands, verb_word, verb_in}
+use Rattle.pct_ask.proofs.laws.TraceVerbs.{verb-told, verb-found, known-since, since-known}
+use Rattle.trace_text.specs.Operands.{listed, mapped, Each, SomeOf}
 use Rattle.trace_text.specs.reader.Numbers.{i64_in}
 use Rattle.trace_text.specs.reader.Asks.{has_form, object_at, object, holds_of, plain, operand_in}
 use Rattle.trace_text.specs.reader.Asks.{both, read_as, operands_in, ask_of, made, asked, verb_ask}
 use Rattle.trace_text.specs.reader.Asks.{ask_of_words}
 use Rattle.trace_text.specs.declared.asks.WordsRead.{WordsRead}
 use Rattle.trace_text.specs.declared.asks.WordsRead.TheVariants.{Is, NoForm, UnknownName}
-use Rattle.trace_text.specs.declared.verbs.Verb.{Verb}
-use Rattle.trace_text.specs.declared.verbs.OperandKind.{OperandKind}
-use Rattle.trace_text.specs.declared.verbs.OperandKind.TheVariants as kinds
-use Rattle.trace_text.specs.declared.verbs.Operand.{Operand}
-use Rattle.trace_text.specs.declared.verbs.Operand.TheVariants as operands
-use Rattle.trace_text.specs.declared.verbs.Operands.{Operands}
-use Rattle.trace_text.specs.declared.verbs.Operands.TheVariants.{Bare, One, Two, Three}
+use Rattle.trace_text.specs.declared.asks.Operand.{Operand}
+use Rattle.trace_text.specs.declared.asks.Operand.TheVariants as operands
 use Rattle.trace_text.specs.Forms.{OperandForm, Name, Value, Holds, Cause, AskForm, ask_form}
 use Rattle.trace_text.specs.Forms.{operand_word, words_of_ask, IsName, IsOperandForm, IsAskOf}
 use Rattle.trace_text.specs.Forms.{IsUnknownOperand, AsksUnknown}
 use Rattle.trace_text.proofs.Values.{Some-i64_in, i64_in-Some}
-use Rattle.trace_text.proofs.VerbTable.{verb-told, verb-found, known-since, since-known, makes}
+use Rattle.trace_text.proofs.AskParts.{makes}
 use Rattle.trace_text.proofs.AskWords.{holds-word, operands-told, ask_in, listed-ask, HasFewWords}
 
 -- words with no form, and words whose names are known

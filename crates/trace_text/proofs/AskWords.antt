@@ -12,26 +12,28 @@ use Rattle.pct_ask.specs.declared.ask.Ask.{Ask}
 use Rattle.pct_ask.specs.declared.ask.Ask.TheVariants as asks
 use Rattle.pct_ask.proofs.laws.SameWords.{same-word}
 use Rattle.pct_ask.proofs.laws.VerdictForms.{fault_word-read}
+use Rattle.pct_ask.specs.declared.trace_verbs.Verb.{Verb}
+use Rattle.pct_ask.specs.declared.trace_verbs.OperandKind.{OperandKind}
+use Rattle.pct_ask.specs.declared.trace_verbs.OperandKind.TheVariants as kinds
+use Rattle.pct_ask.specs.declared.trace_verbs.Operands.{Operands}
+use Rattle.pct_ask.specs.declared.trace_verbs.Operands.TheVariants.{Bare, One, Two, Three}
+use Rattle.pct_ask.specs.TraceVerbs.{verb_operands, verb_word, verb_in}
+use Rattle.pct_ask.proofs.laws.TraceVerbs.{verb-told, verb-found}
 use Rattle.trace_text.specs.Lawful.{IsAsk}
-use Rattle.trace_text.specs.Verbs.{verb_operands, verb_word, verb_in, listed, Each}
+use Rattle.trace_text.specs.Operands.{listed, Each}
 use Rattle.trace_text.specs.reader.Numbers.{i64_in}
 use Rattle.trace_text.specs.reader.Asks.{object, holds_of, plain, operand_in, both, read_as}
 use Rattle.trace_text.specs.reader.Asks.{operands_in, ask_of, made, asked, verb_ask, ask_of_words}
 use Rattle.trace_text.specs.declared.asks.WordsRead.{WordsRead}
 use Rattle.trace_text.specs.declared.asks.WordsRead.TheVariants.{Is, NoForm, UnknownName}
-use Rattle.trace_text.specs.declared.verbs.Verb.{Verb}
-use Rattle.trace_text.specs.declared.verbs.OperandKind.{OperandKind}
-use Rattle.trace_text.specs.declared.verbs.OperandKind.TheVariants as kinds
-use Rattle.trace_text.specs.declared.verbs.Operand.{Operand}
-use Rattle.trace_text.specs.declared.verbs.Operand.TheVariants.{Place, Value, Holds, Cause}
-use Rattle.trace_text.specs.declared.verbs.Operands.{Operands}
-use Rattle.trace_text.specs.declared.verbs.Operands.TheVariants.{Bare, One, Two, Three}
+use Rattle.trace_text.specs.declared.asks.Operand.{Operand}
+use Rattle.trace_text.specs.declared.asks.Operand.TheVariants.{Place, Value, Holds, Cause}
 use Rattle.trace_text.proofs.Names.{known-object, object-known}
 use Rattle.trace_text.proofs.Values.{Some-i64_in, i64_in-Some}
-use Rattle.trace_text.proofs.VerbTable.{verb-told, verb-found, parts, IsOperand}
-use Rattle.trace_text.proofs.VerbTable.{operand_word, operand_words, words_of_parts}
-use Rattle.trace_text.proofs.VerbTable.{parts-words, parts-make, made-parts, lawful-known}
-use Rattle.trace_text.proofs.VerbTable.{lawful-operands, lawful-parts}
+use Rattle.trace_text.proofs.AskParts.{parts, IsOperand}
+use Rattle.trace_text.proofs.AskParts.{operand_word, operand_words, words_of_parts}
+use Rattle.trace_text.proofs.AskParts.{parts-words, parts-make, made-parts, lawful-known}
+use Rattle.trace_text.proofs.AskParts.{lawful-operands, lawful-parts}
 
 -- ---- what is read of words is of these words
 

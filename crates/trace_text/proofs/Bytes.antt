@@ -12,19 +12,20 @@ use Rattle.pct_ask.specs.declared.ask.Ask.{Ask}
 use Rattle.pct_ask.specs.declared.event.Event.{Event}
 use Rattle.pct_ask.proofs.laws.TextBytes.{IsHigh, AreHigh, high-cons, high-append, high-by}
 use Rattle.pct_ask.proofs.laws.TextBytes.{name-high, decimal-high, fault-high}
+use Rattle.pct_ask.specs.declared.trace_verbs.Verb.{Verb}
+use Rattle.pct_ask.specs.declared.trace_verbs.Verb.TheVariants as verbs
+use Rattle.pct_ask.specs.declared.trace_verbs.OperandKind.{OperandKind}
+use Rattle.pct_ask.specs.declared.trace_verbs.OperandKind.TheVariants as kinds
+use Rattle.pct_ask.specs.declared.trace_verbs.Operands.{Operands}
+use Rattle.pct_ask.specs.declared.trace_verbs.Operands.TheVariants.{Bare, One, Two, Three}
+use Rattle.pct_ask.specs.TraceVerbs.{verb_word, verb_operands}
 use Rattle.trace_text.specs.Lawful.{IsAsk, IsStep, IsValue}
-use Rattle.trace_text.specs.Verbs.{verb_word, verb_operands, listed, Each}
-use Rattle.trace_text.specs.declared.verbs.Verb.{Verb}
-use Rattle.trace_text.specs.declared.verbs.Verb.TheVariants as verbs
-use Rattle.trace_text.specs.declared.verbs.OperandKind.{OperandKind}
-use Rattle.trace_text.specs.declared.verbs.OperandKind.TheVariants as kinds
-use Rattle.trace_text.specs.declared.verbs.Operand.{Operand}
-use Rattle.trace_text.specs.declared.verbs.Operand.TheVariants.{Place, Value, Holds, Cause}
-use Rattle.trace_text.specs.declared.verbs.Operands.{Operands}
-use Rattle.trace_text.specs.declared.verbs.Operands.TheVariants.{Bare, One, Two, Three}
+use Rattle.trace_text.specs.Operands.{listed, Each}
+use Rattle.trace_text.specs.declared.asks.Operand.{Operand}
+use Rattle.trace_text.specs.declared.asks.Operand.TheVariants.{Place, Value, Holds, Cause}
 use Rattle.trace_text.proofs.Names.{name-lawful}
-use Rattle.trace_text.proofs.VerbTable.{IsOperand, operand_word, operand_words, parts, parts-words}
-use Rattle.trace_text.proofs.VerbTable.{lawful-operands}
+use Rattle.trace_text.proofs.AskParts.{IsOperand, operand_word, operand_words, parts, parts-words}
+use Rattle.trace_text.proofs.AskParts.{lawful-operands}
 
 value-high : (z : ℤ) → IsValue z → IsHigh (number_text z)
 value-high (pos n) fits = decimal-high n (omega (arith, fits.sfits))

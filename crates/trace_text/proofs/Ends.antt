@@ -11,15 +11,15 @@ use Rattle.pct_ask.specs.declared.verdict.Verdict.{Verdict}
 use Rattle.pct_ask.specs.declared.verdict_text.VerdictRead.{VerdictRead}
 use Rattle.pct_ask.specs.declared.verdict_text.VerdictRead.TheVariants.{Is, NoForm, UnknownName}
 use Rattle.pct_ask.specs.VerdictWords.{words_of}
-use Rattle.trace_text.specs.Lawful.{is_of_second}
 use Rattle.pct_ask.specs.VerdictWords.{line_number}
+use Rattle.pct_ask.specs.declared.trace_verbs.Operands.TheVariants.{Three}
+use Rattle.pct_ask.specs.Pieces.{seen}
+use Rattle.trace_text.specs.Lawful.{is_of_second}
 use Rattle.trace_text.specs.reader.Numbers.{i64_in, natural_of}
 use Rattle.trace_text.specs.reader.Asks.{object, ask_of_words}
-use Rattle.trace_text.specs.declared.verbs.Operands.TheVariants.{Three}
 use Rattle.trace_text.specs.declared.asks.WordsRead.{WordsRead}
 use Rattle.trace_text.specs.reader.StepLines.{tells_reads, end_of, numbered_step, step_in_words}
 use Rattle.trace_text.specs.reader.StepLines.{step_of_words, row_of}
-use Rattle.pct_ask.specs.Pieces.{seen}
 use Rattle.trace_text.specs.declared.row.TraceRow.{TraceRow}
 use Rattle.trace_text.specs.declared.row.TraceRow.TheVariants.{End}
 

@@ -10,10 +10,10 @@ use Rattle.pct_ask.specs.NameLists.{AreNames, list_of, all_names}
 use Rattle.pct_ask.specs.declared.names.NameKind.{NameKind}
 use Rattle.pct_ask.specs.declared.names.NameKind.TheVariants.{Thread, Var, Mutex, Cond, Sem}
 use Rattle.pct_ask.specs.declared.names.NameKind.TheVariants.{Barrier, RwLock}
-use Rattle.trace_text.specs.Verbs.{verb_in}
+use Rattle.pct_ask.specs.Numbers.{number_in}
+use Rattle.pct_ask.specs.TraceVerbs.{verb_in}
 use Rattle.trace_text.specs.reader.Asks.{ask_of_words}
 use Rattle.trace_text.specs.Faults.{IsTraceFault}
-use Rattle.pct_ask.specs.Numbers.{number_in}
 use Rattle.trace_text.specs.reader.Numbers.{i64_in}
 use Rattle.trace_text.specs.reader.Reading.{Fault, read_as_trace}
 use Rattle.trace_text.specs.Rows.{some_names}

@@ -21,7 +21,6 @@ use Rattle.trace_text.specs.Faults.{IsVerdictLine, IsInBody}
 use Rattle.trace_text.specs.reader.StepLines.{row_of}
 use Rattle.trace_text.specs.declared.row.TraceRow.{TraceRow}
 use Rattle.trace_text.specs.declared.row.TraceRow.TheVariants.{Step, End}
-use Rattle.trace_text.proofs.VerbTable.{first-or-second}
 use Rattle.trace_text.proofs.StepForms.{step-form, step-read}
 use Rattle.trace_text.proofs.EndForms.{never, end-form, end-read}
 use Rattle.trace_text.proofs.HeadForms.{version-form, version-read, same-version, one-or-two}
@@ -40,6 +39,10 @@ unequal false p q = cc
 pub some-of : {A : Type 0} (o : Option A) → is_some o ≡ true → (x : A) × (o ≡ Some x)
 some-of None h = absurd cc
 some-of (Some x) h = (x, refl)
+
+first-or-second : (version : ℕ) → (version ≡ 1) ⊎ (version ≡ 2) → 1 ≤ version
+first-or-second version (inl one) = omega arith
+first-or-second version (inr two) = omega arith
 
 module _ (names : NameLists) (sound : AreNames names) (size : ℕ) (pieces : List (List ℕ)) where
   -- ---- what a line says

@@ -3,7 +3,7 @@ pub mod HeadWords
 pub mod Ends
 pub mod Bodies
 pub mod Names
-pub mod VerbTable
+pub mod AskParts
 pub mod AskWords
 pub mod StepWords
 pub mod AskForms

@@ -12,15 +12,16 @@ use Rattle.pct_ask.specs.declared.names.NameKind.{NameKind}
 use Rattle.pct_ask.specs.declared.names.NameKind.TheVariants as kinds
 use Rattle.pct_ask.specs.declared.ask.FaultKind.{FaultKind}
 use Rattle.pct_ask.specs.declared.verdict.MisuseKind.TheVariants.{TooManyReads}
-use Rattle.trace_text.specs.Lawful.{IsValue}
-use Rattle.trace_text.specs.Verbs.{verb_word, verb_operands, verb_since, listed, mapped, Each}
-use Rattle.trace_text.specs.Verbs.{SomeOf}
-use Rattle.trace_text.specs.declared.verbs.Verb.{Verb}
-use Rattle.trace_text.specs.declared.verbs.OperandKind.{OperandKind}
-use Rattle.trace_text.specs.declared.verbs.OperandKind.TheVariants as operands
-use Rattle.trace_text.specs.declared.verbs.Operands.{Operands}
+use Rattle.pct_ask.specs.declared.trace_verbs.Verb.{Verb}
+use Rattle.pct_ask.specs.declared.trace_verbs.OperandKind.{OperandKind}
+use Rattle.pct_ask.specs.declared.trace_verbs.OperandKind.TheVariants as operands
+use Rattle.pct_ask.specs.declared.trace_verbs.Operands.{Operands}
 use Rattle.pct_ask.specs.declared.limits.TheConstants.{MAX_POINTS}
 use Rattle.pct_ask.specs.Limits.{IsStepCount}
+use Rattle.pct_ask.specs.TraceVerbs.{verb_word, verb_operands, verb_since}
+use Rattle.trace_text.specs.Lawful.{IsValue}
+use Rattle.trace_text.specs.Operands.{listed, mapped, Each}
+use Rattle.trace_text.specs.Operands.{SomeOf}
 
 -- an operand: an object by its name, a number, whether a check holds, or a fault
 pub data OperandForm : Type 0 where

@@ -1,7 +1,9 @@
 pub mod Lawful
+pub mod Known
+pub mod Agreed
 pub mod Trace
 pub mod Lines
-pub mod Verbs
+pub mod Operands
 pub mod Forms
 pub mod Faults
 pub mod Answers

@@ -8,16 +8,16 @@ use Rattle.pct_ask.specs.VerdictWords.{words_of}
 use Rattle.pct_ask.specs.declared.ask.Ask.TheVariants.{Read, Add, RdLock}
 use Rattle.pct_ask.specs.declared.verdict.Verdict.TheVariants.{Stuck, Cut}
 use Rattle.pct_ask.specs.Numbers.{number_in}
+use Rattle.pct_ask.specs.declared.trace_verbs.Verb.TheVariants as verbs
+use Rattle.pct_ask.specs.declared.trace_verbs.Operands.TheVariants.{One, Two, Three}
+use Rattle.pct_ask.specs.Pieces.{pieces_of}
+use Rattle.pct_ask.specs.TraceVerbs.{verb_in}
 use Rattle.trace_text.specs.reader.Numbers.{i64_in}
 use Rattle.trace_text.specs.reader.StepLines.{row_of, step_in_words}
-use Rattle.trace_text.specs.Verbs.{verb_in}
 use Rattle.trace_text.specs.reader.Asks.{ask_of_words}
 use Rattle.trace_text.specs.Faults.{version_of}
 use Rattle.trace_text.specs.Forms as forms
 use Rattle.trace_text.specs.Forms.{Order, Points, Limit, End, Name, Value, ask_form, words_of_form}
-use Rattle.trace_text.specs.declared.verbs.Verb.TheVariants as verbs
-use Rattle.trace_text.specs.declared.verbs.Operands.TheVariants.{One, Two, Three}
-use Rattle.pct_ask.specs.Pieces.{pieces_of}
 use Rattle.trace_text.specs.declared.row.TraceRow.TheVariants.{Step}
 
 -- two threads, a variable and a read-write lock

@@ -1,16 +1,27 @@
 //! The words of asks.
 
 ghost use Rattle.std.specs.Prelude.{◌≡◌};
-ghost use Rattle.trace_text.specs.Verbs.{mapped};
+ghost use Rattle.trace_text.specs.Operands.{mapped};
 ghost use Rattle.trace_text.specs.reader.Asks as asks;
 
 use crate::number::i64_in;
-use crate::verbs::{Operand, OperandKind, Operands, Verb, verb_in};
-use pct_ask::{Ask, NameKind, Names, fault_kind, is_lawful_name};
+use pct_ask::{
+    Ask, FaultKind, NameKind, Names, OperandKind, Operands, Verb, fault_kind, is_lawful_name,
+    verb_in,
+};
 
 pub const HOLDS: &[u8] = b"1";
 
 pub const FAILS: &[u8] = b"0";
+
+/// An operand. An object is its place among those of its kind.
+#[derive(Clone, Copy)]
+pub enum Operand {
+    Place(u32),
+    Value(i64),
+    Holds(bool),
+    Cause(FaultKind),
+}
 
 /// What words of a line are read as: an object, or an ask.
 #[derive(Clone, Copy)]

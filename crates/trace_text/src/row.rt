@@ -14,10 +14,9 @@ ghost use Rattle.pct_ask.specs.Pieces.{seen};
 use crate::asks::{WordsRead, ask_of_words, object};
 use crate::fault::TraceFault;
 use crate::number::{i64_in, natural_of};
-use crate::verbs::Operands;
 use pct_ask::{
-    Ask, Event, MisuseKind, NameKind, Names, Verdict, VerdictRead, first_words, line_number,
-    read_verdict,
+    Ask, Event, MisuseKind, NameKind, Names, Operands, Verdict, VerdictRead, first_words,
+    line_number, read_verdict,
 };
 use std::alloc::{AllocError as NoMemory, Global};
 

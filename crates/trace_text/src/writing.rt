@@ -9,11 +9,11 @@ ghost use Rattle.pct_ask.specs.VerdictText.{thread_name, named_verdict, IsVerdic
 ghost use Rattle.pct_ask.specs.VerdictText.{IsWholeVerdict};
 ghost use Rattle.pct_ask.specs.TraceText.{ask_words, event_words, step_lines, head_lines};
 ghost use Rattle.pct_ask.specs.TraceText.{verdict_line_words, line_text, trace_text, check_word};
+ghost use Rattle.pct_ask.specs.TraceVerbs.{verb_word};
 ghost use Rattle.trace_text.specs.Answers.{AnswersTrace};
 ghost use Rattle.trace_text.specs.Lawful.{IsValue, HasObjects, IsAsk, NamesKnown, IsStep, IsHead};
 ghost use Rattle.trace_text.specs.Lawful.{is_of_second};
 ghost use Rattle.trace_text.specs.Spaced.{behind_spaces};
-ghost use Rattle.trace_text.specs.Verbs.{verb_word};
 ghost use Rattle.trace_text.specs.Trace.{head_of, file_of_parts, IsTrace};
 ghost use Rattle.trace_text.specs.declared.file.TraceFile.{TraceFile};
 ghost use Rattle.trace_text.specs.declared.fault.TraceError.{TraceError};
@@ -21,10 +21,9 @@ ghost use Rattle.trace_text.specs.declared.fault.TraceError.{TraceError};
 use crate::asks::{FAILS, HOLDS};
 use crate::fault::TraceError;
 use crate::file::{Header, TraceFile};
-use crate::verbs::Verb;
 use NameKind::{Barrier, Cond, Mutex, RwLock, Sem, Thread, Var};
 use pct_ask::{
-    Ask, Event, NameKind, Names, Verdict, fault_word, write_number, write_spaced_number,
+    Ask, Event, NameKind, Names, Verb, Verdict, fault_word, write_number, write_spaced_number,
     write_spaced_word, write_verdict,
 };
 use std::alloc::{AllocError as NoMemory, Global};

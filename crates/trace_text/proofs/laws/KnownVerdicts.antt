@@ -9,6 +9,7 @@ use Rattle.pct_ask.specs.declared.ask.FaultKind.{FaultKind}
 use Rattle.pct_ask.specs.declared.verdict.MisuseKind.{MisuseKind}
 use Rattle.pct_ask.specs.declared.verdict.Verdict.TheVariants.{Passed, Failed, Stuck, Misuse}
 use Rattle.pct_ask.specs.declared.verdict.Verdict.TheVariants.{Fault, Cut}
+use Rattle.trace_text.specs.Known.{IsKnownPlace}
 use Rattle.trace_text.specs.Lawful.{HasObjects, is_of_second, IsKnownVerdict}
 
 -- where a step is, and what it asks
@@ -16,10 +17,6 @@ pub record IsAsked (names : NameLists) (version t line : ℕ) (ask : Ask) : Type
   pub at : t < length names.threads
   pub on : IsLine line
   pub has : HasObjects names version ask
-
--- a thread of the test, at a line of it
-abbrev pub IsKnownPlace : NameLists → ℕ × ℕ → Type 0
-IsKnownPlace names place = (place.0 < length names.threads) × IsLine place.1
 
 module _ (names : NameLists) (version : ℕ) where
   abbrev HasName : ℕ → Type 0
@@ -49,7 +46,7 @@ module _ (names : NameLists) (version : ℕ) where
   cut-known = record { threads = All-nil HasName; whole = tt; known = inl refl }
 
   pub stuck-known : (place : ℕ × ℕ) (places : List (ℕ × ℕ))
-      → All (IsKnownPlace names) (place ∷ places)
+      → All (IsKnownPlace (length names.threads)) (place ∷ places)
       → IsKnownVerdict names version (Stuck (place ∷ places))
   stuck-known place places all = record {
     threads =

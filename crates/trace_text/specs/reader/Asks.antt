@@ -9,22 +9,22 @@ use Rattle.pct_ask.specs.VerdictWords.{fault_kind}
 use Rattle.pct_ask.specs.declared.names.NameKind.{NameKind}
 use Rattle.pct_ask.specs.declared.ask.Ask.{Ask}
 use Rattle.pct_ask.specs.declared.ask.Ask.TheVariants as asks
-use Rattle.trace_text.specs.Verbs.{verb_operands, verb_in}
+use Rattle.pct_ask.specs.declared.trace_verbs.Verb.{Verb}
+use Rattle.pct_ask.specs.declared.trace_verbs.Verb.TheVariants.{Read, Write, Add, Lock, TryLock}
+use Rattle.pct_ask.specs.declared.trace_verbs.Verb.TheVariants.{Unlock, Release, Regain, Signal}
+use Rattle.pct_ask.specs.declared.trace_verbs.Verb.TheVariants.{Broadcast, Down, TryDown, Up}
+use Rattle.pct_ask.specs.declared.trace_verbs.Verb.TheVariants.{Arrive, Leave, Join, Yield, Start}
+use Rattle.pct_ask.specs.declared.trace_verbs.Verb.TheVariants.{Begin, RdLock, WrLock, TryRdLock}
+use Rattle.pct_ask.specs.declared.trace_verbs.Verb.TheVariants.{TryWrLock, RwUnlock}
+use Rattle.pct_ask.specs.declared.trace_verbs.OperandKind.{OperandKind}
+use Rattle.pct_ask.specs.declared.trace_verbs.OperandKind.TheVariants as kinds
+use Rattle.pct_ask.specs.declared.trace_verbs.Operands.{Operands}
+use Rattle.pct_ask.specs.declared.trace_verbs.Operands.TheVariants.{Bare, One, Two, Three}
+use Rattle.pct_ask.specs.TraceVerbs.{verb_operands, verb_in}
 use Rattle.trace_text.specs.declared.asks.WordsRead.{WordsRead}
 use Rattle.trace_text.specs.declared.asks.WordsRead.TheVariants.{Is, NoForm, UnknownName}
-use Rattle.trace_text.specs.declared.verbs.Verb.{Verb}
-use Rattle.trace_text.specs.declared.verbs.Verb.TheVariants.{Read, Write, Add, Lock, TryLock}
-use Rattle.trace_text.specs.declared.verbs.Verb.TheVariants.{Unlock, Release, Regain, Signal}
-use Rattle.trace_text.specs.declared.verbs.Verb.TheVariants.{Broadcast, Down, TryDown, Up, Arrive}
-use Rattle.trace_text.specs.declared.verbs.Verb.TheVariants.{Leave, Join, Yield, Start, Begin}
-use Rattle.trace_text.specs.declared.verbs.Verb.TheVariants.{RdLock, WrLock, TryRdLock, TryWrLock}
-use Rattle.trace_text.specs.declared.verbs.Verb.TheVariants.{RwUnlock}
-use Rattle.trace_text.specs.declared.verbs.OperandKind.{OperandKind}
-use Rattle.trace_text.specs.declared.verbs.OperandKind.TheVariants as kinds
-use Rattle.trace_text.specs.declared.verbs.Operand.{Operand}
-use Rattle.trace_text.specs.declared.verbs.Operand.TheVariants.{Place, Value, Holds, Cause}
-use Rattle.trace_text.specs.declared.verbs.Operands.{Operands}
-use Rattle.trace_text.specs.declared.verbs.Operands.TheVariants.{Bare, One, Two, Three}
+use Rattle.trace_text.specs.declared.asks.Operand.{Operand}
+use Rattle.trace_text.specs.declared.asks.Operand.TheVariants.{Place, Value, Holds, Cause}
 use Rattle.trace_text.specs.reader.Numbers.{i64_in}
 
 -- whether words have the form, be their names known or not

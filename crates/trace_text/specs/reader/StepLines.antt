@@ -10,11 +10,11 @@ use Rattle.pct_ask.specs.declared.ask.Ask.{Ask}
 use Rattle.pct_ask.specs.declared.event.Event.{Event}
 use Rattle.pct_ask.specs.declared.verdict_text.VerdictRead.{VerdictRead}
 use Rattle.pct_ask.specs.declared.verdict_text.VerdictRead.TheVariants.{Is, NoForm, UnknownName}
+use Rattle.pct_ask.specs.declared.trace_verbs.Operands.TheVariants.{Bare, One, Two, Three}
 use Rattle.trace_text.specs.reader.Numbers.{i64_in, natural_of}
 use Rattle.trace_text.specs.reader.Asks.{has_form, known_words, object, ask_of_words}
 use Rattle.trace_text.specs.Lawful.{is_of_second}
 use Rattle.trace_text.specs.declared.asks.WordsRead.{WordsRead}
-use Rattle.trace_text.specs.declared.verbs.Operands.TheVariants.{Bare, One, Two, Three}
 use Rattle.trace_text.specs.declared.row.TraceRow.{TraceRow}
 use Rattle.trace_text.specs.declared.row.TraceRow.TheVariants.{Step, End}
 

@@ -2,7 +2,7 @@ use Rattle.std.proofs.Common.{map, ap, ◌∙◌}
 use Rattle.std.proofs.lemmas.Result.{err_from_is_err_and}
 use Rattle.c_values.proofs.laws.Refusals.{refusal}
 use Rattle.c_tells.specs.Races.{race_numbers, AreRacesOf}
-use Rattle.c_tells.specs.Runs.{IsRunOf}
+use Rattle.c_tells.specs.Runs.{SayRun}
 use Rattle.c_tells.specs.declared.run.Run.{Run}
 use Rattle.c_tells.proofs.races.races_told.Goals as goal
 
@@ -11,7 +11,7 @@ returns-in_err-run c =
     let a = c.args in
     let p = err_from_is_err_and c.from_residual.result c.from_residual.ensures.1 in
     refusal
-    (λ (run : Run). IsRunOf a.counts.now a.vars.now a.sems.now a.barriers.now a.steps.now run.deal
+    (λ (run : Run). SayRun a.counts.now a.vars.now a.sems.now a.barriers.now a.steps.now run.deal
     run.events)
     (AreRacesOf a.counts.now a.vars.now a.sems.now a.barriers.now a.steps.now)
     c.in_err-run.field-0.0 p.0 c.from_residual.result p.1 p.2 c.in_err-run.ensures

@@ -1,6 +1,6 @@
 -- Each place was known, as far as the loop has come.
 use Rattle.std.proofs.Common.{◌<◌, length, refl, arith}
-use Rattle.c_texts.specs.Known.{IsKnownPlace}
+use Rattle.trace_text.specs.Known.{IsKnownPlace}
 use Rattle.c_texts.proofs.KnownPlaces.{next_set, next_unset, not_here, none_left, both}
 use Rattle.c_texts.proofs.known.are_known_places.Goals as goal
 use Rattle.c_texts.proofs.known.are_known_places.Goals.{else-rest-eq1-via-else-rest-eq1}

@@ -1,5 +1,5 @@
 use Rattle.std.proofs.Common.{◌↔◌, All, drop}
-use Rattle.c_texts.specs.Known.{IsKnownPlace}
+use Rattle.trace_text.specs.Known.{IsKnownPlace}
 use Rattle.c_texts.proofs.KnownPlaces.{rest_of}
 use Rattle.c_texts.proofs.known.are_known_places.Given as goal
 

@@ -3,7 +3,8 @@ use Rattle.pct_ask.specs.declared.names.NameKind.TheVariants.{Thread}
 use Rattle.std.proofs.lemmas.Result.{err_from_is_err_and}
 use Rattle.rank_now.specs.Order.{IsOrder}
 use Rattle.c_values.proofs.laws.Refusals.{refusal}
-use Rattle.c_texts.specs.Traces.{head_by, IsHeadOf, IsPlainHead}
+use Rattle.trace_text.specs.Known.{head_by, IsPlainHead}
+use Rattle.c_texts.specs.Traces.{IsHeadOf}
 use Rattle.c_texts.proofs.traces.header_of.Goals as goal
 
 pub returns-then-not-is_plain_head : goal.returns-then-not-is_plain_head

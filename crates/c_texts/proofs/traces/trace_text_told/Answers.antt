@@ -5,7 +5,8 @@ use Rattle.c_values.proofs.laws.Refusals.{refusal}
 use Rattle.trace_text.specs.Lawful.{IsHead}
 use Rattle.trace_text.specs.declared.file.Header.{Header}
 use Rattle.c_texts.specs.Known.{SaysKnown}
-use Rattle.c_texts.specs.Traces.{head_by, IsHeadOf, SaysSteps, IsOfVersion, IsTraceText}
+use Rattle.trace_text.specs.Known.{head_by, IsOfVersion}
+use Rattle.c_texts.specs.Traces.{IsHeadOf, SaysSteps, IsTraceText}
 use Rattle.c_texts.proofs.SameNames.{same_verdict}
 use Rattle.pct_ask.specs.declared.verdict.Verdict.{Verdict}
 use Rattle.c_texts.proofs.SameNames.{same_names}

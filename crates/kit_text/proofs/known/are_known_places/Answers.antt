@@ -1,5 +1,5 @@
 use Rattle.std.proofs.Common.{sym, arith}
-use Rattle.kit_text.specs.Texts.{IsKnownPlace}
+use Rattle.trace_text.specs.Known.{IsKnownPlace}
 use Rattle.kit_text.proofs.Blocked.{one-of-all, all-of-each}
 use Rattle.kit_text.proofs.known.are_known_places.Goals as goal
 

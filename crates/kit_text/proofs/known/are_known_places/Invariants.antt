@@ -1,6 +1,6 @@
 use Rattle.std.proofs.Common.{◌≡◌, ◌<◌, ℕ, Some}
 use Rattle.pct_ask.specs.Places.{line_of_thread, AreRising}
-use Rattle.kit_text.specs.Texts.{IsKnownPlace}
+use Rattle.trace_text.specs.Known.{IsKnownPlace}
 use Rattle.kit_text.proofs.known.are_known_places.Given as goal
 
 -- the threads before this one are known

@@ -4,7 +4,7 @@ use Rattle.std.specs.Prelude.{IfSome, Result, IfOk, map}
 use Rattle.std.proofs.Common.{List}
 use Rattle.rank_now.specs.declared.moment.Moment.{Moment}
 use Rattle.pct_ask.specs.declared.deal.Deal.{Deal}
-use Rattle.policy_pick.specs.Plan.{ByEvents}
+use Rattle.policy_pick.specs.Plan.{ByMoments}
 use Rattle.rank_now.specs.declared.order.RankError.{RankError}
 use Rattle.c_values.specs.Deals.{SaysDeal}
 use Rattle.c_values.specs.Moments.{moment_said}
@@ -23,7 +23,7 @@ returns-in_ok-own-in-Some c =
     let barriers = c.args.barriers.now in
     let own = c.as_slice.ensures.value ∙ c.in_ok-own-in-Some.ensures in
     let made = subst (λ (l : List Moment). IfOk c.by_moments-made.result (λ b. state_of b
-    ≡ new_book c.in-Some.deal c.args.limit (ByEvents c.args.order.now l))) own
+    ≡ new_book c.in-Some.deal c.args.limit (ByMoments c.args.order.now l))) own
     c.by_moments-made.ensures.made in
     let says = subst (λ (deal : Option Deal). IfSome deal (SaysDeal counts vars sems barriers))
     c.in-Some.is c.in_ok-deal.ensures.deal in
@@ -31,13 +31,13 @@ returns-in_ok-own-in-Some c =
     (MayOrder counts vars sems barriers c.args.order.now (length c.args.moments.now) c.args.limit
     → ⊥)
     (IsMade counts vars sems barriers c.args.limit
-    (ByEvents c.args.order.now (map moment_said c.args.moments.now)))
+    (ByMoments c.args.order.now (map moment_said c.args.moments.now)))
     c.of_order.ensures.made c.of_order.ensures.bad
     (λ book is. (
       c.in-Some.deal,
       says,
       subst (λ (r : Result Book RankError). IfOk r (λ b. state_of b ≡ new_book c.in-Some.deal
-          c.args.limit (ByEvents c.args.order.now (map moment_said c.args.moments.now)))) is made,
+          c.args.limit (ByMoments c.args.order.now (map moment_said c.args.moments.now)))) is made,
     ))
     (λ at is may. wrong_is_no_order c.args.order.now at
     (c.by_moments-made.ensures.not_an_order at is)

@@ -1,7 +1,7 @@
 -- What was made is kept.
 use Rattle.std.proofs.Common.{length}
 use Rattle.std.specs.Prelude.{map}
-use Rattle.policy_pick.specs.Plan.{ByEvents}
+use Rattle.policy_pick.specs.Plan.{ByMoments}
 use Rattle.c_values.specs.Moments.{moment_said}
 use Rattle.pct_c.specs.Makers.{MayOrder, IsMade}
 use Rattle.pct_c.proofs.Making.{kept}
@@ -17,6 +17,6 @@ returns c =
     c.keep.new.handle.held.value
     (MayOrder deal vars sems barriers c.args.order.now (length c.args.moments.now) c.args.limit)
     (IsMade deal vars sems barriers c.args.limit
-    (ByEvents c.args.order.now (map moment_said c.args.moments.now)))
+    (ByMoments c.args.order.now (map moment_said c.args.moments.now)))
     c.made_by_moments-made.ensures c.keep.ensures.done c.keep.ensures.bad c.keep.ensures.statuses
     c.keep.ensures.stays

@@ -1,4 +1,5 @@
-use Rattle.c_texts.specs.Traces.{head_by, IsTraceText}
+use Rattle.trace_text.specs.Known.{head_by}
+use Rattle.c_texts.specs.Traces.{IsTraceText}
 use Rattle.pct_c.proofs.BufferLaws.{puts}
 use Rattle.pct_c.proofs.texts.pct_text_trace.Goals as goal
 

@@ -2,7 +2,7 @@ use Rattle.std.proofs.Common.{◌≡◌, Some, None, Option, Result, Err, sym, a
 use Rattle.std.specs.Prelude.{◌==◌, IfOk}
 use Rattle.pct_ask.specs.Tokens.{tokens_of}
 use Rattle.script_tree.specs.declared.fault.ScriptFault.{ScriptFault}
-use Rattle.script_parse.specs.Part.{Part}
+use Rattle.script_parse.specs.Part.{ReadPart}
 use Rattle.script_parse.specs.Lookahead.{place_ahead}
 use Rattle.script_parse.specs.Seen.{all_seen}
 use Rattle.script_parse.specs.States.{seen_state, seen_step}
@@ -16,7 +16,7 @@ returns-in-None c =
     sym c.bytes_fault.ensures ∙ c.in_default.is in
     let cut : tokens_of c.args.line.now ≡ None = sym (rw c.in-None.is at c.in_ok-tokens.ensures) in
     c.bad-in-None.ensures
-    ∙ ap (err_of (Option Part)) c.uncut_fault-kind.ensures
+    ∙ ap (err_of (Option ReadPart)) c.uncut_fault-kind.ensures
     ∙ sym (line_said-uncut (seen_state c.args.state) (place_ahead c.args.ahead.now) c.args.number
     (c.args.number == c.args.ahead.now.lines))
     ∙ sym (line_taken-said (seen_state c.args.state) (place_ahead c.args.ahead.now) c.args.number

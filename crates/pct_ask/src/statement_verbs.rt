@@ -1,10 +1,10 @@
-//! The verbs of statements that name one object or thread, as a table.
+//! The verbs of statements that name one object or thread, as two tables.
 
 ghost use Rattle.std.specs.Prelude.{◌≡◌};
-ghost use Rattle.script_tree.specs.Forms.{on_word, on_kind, on_since, on_verb_in};
-ghost use Rattle.script_tree.specs.Forms.{into_word, into_kind, into_since, into_verb_in};
+ghost use Rattle.pct_ask.specs.StatementVerbs.{on_word, on_kind, on_since, on_verb_in};
+ghost use Rattle.pct_ask.specs.StatementVerbs.{into_word, into_kind, into_since, into_verb_in};
 
-use pct_ask::NameKind;
+use crate::names::NameKind;
 
 /// A statement on one object.
 #[derive(Clone, Copy)]
@@ -78,6 +78,7 @@ fn row(word: &'static [u8], kind: NameKind, since: u32) -> VerbRow
 }
 
 impl OnVerb {
+    /// Its row of the table.
     pub fn row(self) -> VerbRow
         ensures word { result.word.now ≡ on_word self }
         ensures kind { result.kind ≡ on_kind self }
@@ -110,6 +111,7 @@ impl OnVerb {
 }
 
 impl IntoVerb {
+    /// Its row of the table.
     pub fn row(self) -> VerbRow
         ensures word { result.word.now ≡ into_word self }
         ensures kind { result.kind ≡ into_kind self }

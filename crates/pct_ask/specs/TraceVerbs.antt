@@ -1,21 +1,22 @@
 -- The asks of traces, as a table (this project): the word of each, what its operands are, and the
 -- first version of traces that has it.
-use Rattle.std.specs.Prelude.{ℕ, ◌⊎◌, ◌==◌, ◌||◌, if◌then◌else◌, List, [], ◌∷◌, Option, Some, None}
+use Rattle.std.specs.Prelude.{ℕ, ◌==◌, ◌||◌, if◌then◌else◌, List, [], ◌∷◌, Option, Some, None}
 use Rattle.std.specs.Prelude.{codes}
 use Rattle.std.specs.Str.{bytes_eq}
 use Rattle.pct_ask.specs.declared.names.NameKind.TheVariants.{Thread, Var, Mutex, Cond, Sem}
 use Rattle.pct_ask.specs.declared.names.NameKind.TheVariants.{Barrier, RwLock}
-use Rattle.trace_text.specs.declared.verbs.Verb.{Verb}
-use Rattle.trace_text.specs.declared.verbs.Verb.TheVariants.{Read, Write, Add, Cas, Lock, TryLock}
-use Rattle.trace_text.specs.declared.verbs.Verb.TheVariants.{Unlock, Release, Regain, Signal}
-use Rattle.trace_text.specs.declared.verbs.Verb.TheVariants.{Broadcast, Down, TryDown, Up, Arrive}
-use Rattle.trace_text.specs.declared.verbs.Verb.TheVariants.{Leave, Join, Yield, Check, Fault}
-use Rattle.trace_text.specs.declared.verbs.Verb.TheVariants.{Start, Begin, RdLock, WrLock}
-use Rattle.trace_text.specs.declared.verbs.Verb.TheVariants.{TryRdLock, TryWrLock, RwUnlock}
-use Rattle.trace_text.specs.declared.verbs.OperandKind.{OperandKind}
-use Rattle.trace_text.specs.declared.verbs.OperandKind.TheVariants.{Object, Value, Holds, Cause}
-use Rattle.trace_text.specs.declared.verbs.Operands.{Operands}
-use Rattle.trace_text.specs.declared.verbs.Operands.TheVariants.{Bare, One, Two, Three}
+use Rattle.pct_ask.specs.declared.trace_verbs.Verb.{Verb}
+use Rattle.pct_ask.specs.declared.trace_verbs.Verb.TheVariants.{Read, Write, Add, Cas, Lock}
+use Rattle.pct_ask.specs.declared.trace_verbs.Verb.TheVariants.{TryLock, Unlock, Release, Regain}
+use Rattle.pct_ask.specs.declared.trace_verbs.Verb.TheVariants.{Signal, Broadcast, Down, TryDown}
+use Rattle.pct_ask.specs.declared.trace_verbs.Verb.TheVariants.{Up, Arrive, Leave, Join, Yield}
+use Rattle.pct_ask.specs.declared.trace_verbs.Verb.TheVariants.{Check, Fault, Start, Begin, RdLock}
+use Rattle.pct_ask.specs.declared.trace_verbs.Verb.TheVariants.{WrLock, TryRdLock, TryWrLock}
+use Rattle.pct_ask.specs.declared.trace_verbs.Verb.TheVariants.{RwUnlock}
+use Rattle.pct_ask.specs.declared.trace_verbs.OperandKind.{OperandKind}
+use Rattle.pct_ask.specs.declared.trace_verbs.OperandKind.TheVariants.{Object, Value, Holds, Cause}
+use Rattle.pct_ask.specs.declared.trace_verbs.Operands.{Operands}
+use Rattle.pct_ask.specs.declared.trace_verbs.Operands.TheVariants.{Bare, One, Two, Three}
 
 -- a row of the table: a word, the kinds of its operands, and the first version that has it
 pub record Row : Type 0 where
@@ -90,34 +91,3 @@ verb_known version (Some verb) = if verb_since verb == 1 || version == 2 then So
 -- the verb that a word is in traces of a version
 unfoldable pub verb_in : ℕ → List ℕ → Option Verb
 verb_in version word = verb_known version (verb_among verbs word)
-
--- ---- operands
-
--- the operands as a list
-abbrev pub listed : {A : Type 0} → Operands A → List A
-listed Bare = []
-listed (One a) = a ∷ []
-listed (Two a b) = a ∷ b ∷ []
-listed (Three a b c) = a ∷ b ∷ c ∷ []
-
--- f of each operand
-abbrev pub mapped : {A B : Type 0} → (A → B) → Operands A → Operands B
-mapped f Bare = Bare
-mapped f (One a) = One (f a)
-mapped f (Two a b) = Two (f a) (f b)
-mapped f (Three a b c) = Three (f a) (f b) (f c)
-
--- as many of both, and P of each with its own
-abbrev pub Each : {A B : Type 0} → (A → B → Type 0) → Operands A → Operands B → Type 0
-Each P Bare Bare = Unit {0}
-Each P (One a) (One x) = P a x
-Each P (Two a b) (Two x y) = P a x × P b y
-Each P (Three a b c) (Three x y z) = P a x × P b y × P c z
-Each P firsts seconds = ⊥
-
--- P of some of the first with its own of the second
-abbrev pub SomeOf : {A B : Type 0} → (A → B → Type 0) → Operands A → Operands B → Type 0
-SomeOf P (One a) (One x) = P a x
-SomeOf P (Two a b) (Two x y) = P a x ⊎ P b y
-SomeOf P (Three a b c) (Three x y z) = P a x ⊎ (P b y ⊎ P c z)
-SomeOf P firsts seconds = ⊥

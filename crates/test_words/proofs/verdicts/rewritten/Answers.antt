@@ -1,6 +1,6 @@
 -- A verdict that was read can be written.
 use Rattle.pct_ask.proofs.laws.VerdictsRead.{read-written}
-use Rattle.test_words.proofs.asks.rewritten.Goals as goal
+use Rattle.test_words.proofs.verdicts.rewritten.Goals as goal
 
 pub write_verdict-requires-clause-whole : goal.write_verdict-requires-clause-whole
 write_verdict-requires-clause-whole c =

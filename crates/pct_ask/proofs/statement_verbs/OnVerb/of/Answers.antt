@@ -5,14 +5,14 @@ use Rattle.std.specs.Str.{bytes_eq}
 use Rattle.std.proofs.Common.{rules, tests, ◌∙◌}
 use Rattle.std.proofs.lemmas.Iterator.{YieldsList-from_slice}
 use Rattle.std.proofs.lemmas.Iterator.Search.{find_from_yields_List}
-use Rattle.script_tree.specs.Forms.{into_word}
-use Rattle.script_tree.specs.declared.verb.TheConstants.{INTO_VERBS}
-use Rattle.script_tree.proofs.verb.IntoVerb.of.Goals as goal
+use Rattle.pct_ask.specs.StatementVerbs.{on_word}
+use Rattle.pct_ask.specs.declared.statement_verbs.TheConstants.{ON_VERBS}
+use Rattle.pct_ask.proofs.statement_verbs.OnVerb.of.Goals as goal
 
 pub returns : goal.returns
 returns c =
     let found : option_map (λ verb. verb.now) c.find.result
-    ≡ find (λ verb. bytes_eq c.args.word.now (into_word verb)) INTO_VERBS.now
-    = find_from_yields_List (λ verb. bytes_eq c.args.word.now (into_word verb)) _ _ _
-    c.find.ensures.ran (YieldsList-from_slice INTO_VERBS.now cc) (λ x b q k. search (rules, tests)) in
+    ≡ find (λ verb. bytes_eq c.args.word.now (on_word verb)) ON_VERBS.now
+    = find_from_yields_List (λ verb. bytes_eq c.args.word.now (on_word verb)) _ _ _
+    c.find.ensures.ran (YieldsList-from_slice ON_VERBS.now cc) (λ x b q k. search (rules, tests)) in
     c.copied.ensures ∙ found

@@ -1,13 +1,13 @@
-//! The asks of traces, as a table.
+//! The verbs of traces, by which they tell what is asked, as a table.
 
 ghost use Rattle.std.specs.Prelude.{◌≡◌};
-ghost use Rattle.trace_text.specs.Verbs as verbs;
+ghost use Rattle.pct_ask.specs.TraceVerbs as verbs;
 
+use crate::names::NameKind;
 use OperandKind::{Cause, Holds, Value};
 use Operands::{Bare, One, Three, Two};
-use pct_ask::{FaultKind, NameKind};
 
-/// What is asked, without its operands.
+/// An ask, without its operands.
 #[derive(Clone, Copy)]
 pub enum Verb {
     Read,
@@ -50,15 +50,6 @@ pub enum OperandKind {
     Holds,
     /// Why a thread can't go on.
     Cause,
-}
-
-/// An operand. An object is its place among those of its kind.
-#[derive(Clone, Copy)]
-pub enum Operand {
-    Place(u32),
-    Value(i64),
-    Holds(bool),
-    Cause(FaultKind),
 }
 
 /// The operands of an ask, or something of each of them.
@@ -136,6 +127,7 @@ fn row(word: &'static [u8], operands: Operands<OperandKind>, since: u32) -> Sign
 }
 
 impl Verb {
+    /// Its row of the table.
     pub fn signature(self) -> Signature
         ensures word { result.word.now ≡ verbs.verb_word self }
         ensures operands { result.operands ≡ verbs.verb_operands self }
@@ -172,6 +164,7 @@ impl Verb {
         }
     }
 
+    /// Its word, as traces have it.
     pub fn word(self) -> &'static [u8]
         ensures { result.now ≡ verbs.verb_word self }
     {
@@ -180,7 +173,7 @@ impl Verb {
 }
 
 /// The verb of a word, among these.
-#[tactic(auto, using(crate::proofs::VerbTable::among_laws))]
+#[tactic(auto, using(crate::proofs::laws::TraceVerbs::among_laws))]
 fn verb_among(list: &[Verb], word: &[u8]) -> Option<Verb>
     ensures { result ≡ verbs.verb_among list.now word.now }
 {
@@ -204,7 +197,7 @@ fn verb_known(version: u32, verb: Verb) -> Option<Verb>
 }
 
 /// The verb that a word is in traces of a version.
-#[tactic(auto, unfolding(crate::specs::Verbs::verb_in))]
+#[tactic(auto, unfolding(crate::specs::TraceVerbs::verb_in))]
 pub fn verb_in(version: u32, word: &[u8]) -> Option<Verb>
     ensures { result ≡ verbs.verb_in version word.now }
 {
