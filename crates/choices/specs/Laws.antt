@@ -1,6 +1,6 @@
 -- What the lists of choices have: each choice, once, and nothing else (this project).
 use Rattle.std.specs.Prelude.{◌≡◌, ℕ, ◌^◌, List, length, All, Some, slice_get}
-use Rattle.rank_now.specs.Order.{IsOrder}
+use Rattle.rank_now.specs.Order.{IsOrderOf}
 use Rattle.turn_book.specs.Chances.{threads_below}
 use Rattle.choices.specs.Orders.{factorial, orders}
 use Rattle.choices.specs.PointLists.{IsWithin, pointlists}
@@ -10,11 +10,6 @@ pub record StandsOnce {X : Type 0} (list : List X) (item : X) : Type 0 where
   pub place : ℕ
   pub stands : slice_get list place ≡ Some item
   pub once : (other : ℕ) → slice_get list other ≡ Some item → other ≡ place
-
--- it is an order of the threads below n
-pub record IsOrderOf (threads : ℕ) (order : List ℕ) : Type 0 where
-  pub is_order : IsOrder order
-  pub whole : length order ≡ threads
 
 -- it is a list of so many points, each in 1..k
 pub record ArePoints (k many : ℕ) (points : List ℕ) : Type 0 where

@@ -7,7 +7,7 @@ use Rattle.choices.specs.Orders.{orders, low_orders}
 use Rattle.choices.specs.PointLists.{pointlists}
 use Rattle.choices.specs.Points.{points_of}
 use Rattle.choices.specs.Moments.{moments_of}
-use Rattle.choices.specs.Counting.{Leads, hits}
+use Rattle.choices.specs.Counting.{LedRuns, hits}
 
 abbrev pub at : ℕ → ℕ → Moment
 at thread number = record { thread = thread; number = number }
@@ -60,7 +60,7 @@ pub no_moments : moments_of (0 ∷ 1 ∷ []) [] ≡ []
 no_moments = refl
 
 -- by the order alone: the first thread of the order, as the run's verdict
-abbrev pub by_first : Leads
+abbrev pub by_first : LedRuns
 by_first [] points = None
 by_first (zero ∷ order) points = Some ([], Passed)
 by_first (suc thread ∷ order) points = Some ([], Cut)

@@ -7,7 +7,8 @@
 //!   (`low_orders`); `order_count`, its clause (`factorial`).
 //! - The points of moments over some steps (that of a moment that doesn't come is k), the moments
 //!   of a run's points, and the bound n k^m: `points_of`, its clause (`points_of`); `moments_of`,
-//!   its clause (`moments_of`); `bound_of`, its clause.
+//!   its clause (`moments_of`); `bound_of`, its clause. The moments but one: `without_moment`, its
+//!   clause.
 //! - Each order of n threads stands at exactly one place among n!, each list of m points in 1..k at
 //!   exactly one among k^m, and nothing else stands there: the law `each_choice_once`
 //!   (`EachChoiceOnce`, `HasEachOnce`).
@@ -21,7 +22,7 @@ mod points;
 
 pub use bound::bound_of;
 pub use law::each_choice_once;
-pub use moments::moments_of;
+pub use moments::{moments_of, without_moment};
 pub use orders::{low_order_at, order_at, order_count};
 pub use points::points_of;
 

@@ -1,6 +1,6 @@
 //! The moments of a run's change points.
 
-ghost use Rattle.std.specs.Prelude.{◌≡◌, ◌≤◌, ◌==◌, length, count_by, IfOk, All};
+ghost use Rattle.std.specs.Prelude.{◌≡◌, ◌≤◌, ◌<◌, ◌==◌, length, remove, count_by, IfOk, All};
 ghost use Rattle.std.specs.List.{list_any};
 ghost use Rattle.pct_ask.specs.declared.event.Event.{Event};
 ghost use Rattle.turn_book.specs.Posts.{schedule_of};
@@ -57,4 +57,18 @@ pub fn moments_of(alloc: Global, events: &[Event], points: &[u32]) -> Result<Mom
         }
     }
     Ok(moments)
+}
+
+/// The moments but the one at a place.
+pub fn without_moment(
+    alloc: Global,
+    moments: &[Moment],
+    place: usize,
+) -> Result<MomentList, NoMemory>
+    requires { place < length moments.now }
+    ensures { IfOk result (λ rest. rest ≡ remove moments.now place) }
+{
+    let mut rest = Vec::from_slice(alloc, moments)?;
+    rest.remove(place);
+    Ok(MomentList::from_vec(rest))
 }

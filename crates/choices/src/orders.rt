@@ -7,7 +7,7 @@ ghost use Rattle.choices.specs.Orders.{factorial, orders, low_orders};
 use pct_ask::OrderList;
 use std::alloc::{AllocError as NoMemory, Global};
 
-/// In how many orders so many threads can stand.
+/// In how many orders `threads` threads can stand.
 pub fn order_count(threads: u32) -> u32
     requires { threads ≤ 12 }
     ensures { result ≡ factorial threads }
@@ -50,7 +50,7 @@ fn arrange(alloc: Global, threads: Vec<u32>, place: u32) -> Result<Vec<u32>, NoM
     Ok(order)
 }
 
-/// The order at a place, from 0, among those of so many threads.
+/// The order at a place, from 0, among those of `threads` threads.
 pub fn order_at(alloc: Global, threads: u32, place: u32) -> Result<OrderList, NoMemory>
     requires few { threads ≤ 12 }
     requires place { place < factorial threads }
@@ -62,7 +62,7 @@ pub fn order_at(alloc: Global, threads: u32, place: u32) -> Result<OrderList, No
     Ok(OrderList::from_vec(order))
 }
 
-/// The order at a place, from 0, among those of so many threads that place `low` last.
+/// The order at a place, from 0, among those of `threads` threads that place `low` last.
 pub fn low_order_at(
     alloc: Global,
     threads: u32,

@@ -104,28 +104,28 @@ module _ (schedule : List ℕ) (thread number : ℕ) (is : number ≡ steps_of s
             moment.number) (taken ∙ ne_eqb thread moment.thread (λ e. ne (sym e))))
       ]
 
-  pub last_position-moment : (events : List Moment)
-      → last_position is_now events ≡ index_of_moment events after (length schedule + 1)
-  last_position-moment events =
-      greatest-agree (passes_at is_now events)
-      (passes_at (is_moment after (suc (length schedule))) events) (length events)
+  pub last_position-moment : (moments : List Moment)
+      → last_position is_now moments ≡ index_of_moment moments after (length schedule + 1)
+  last_position-moment moments =
+      greatest-agree (passes_at is_now moments)
+      (passes_at (is_moment after (suc (length schedule))) moments) (length moments)
       (λ k p q. passes_at-agree is_now (is_moment after (suc (length schedule))) is_now-moment
-      events k) ∙ ap (index_of_moment events after) (sym (add-one (length schedule)))
+      moments k) ∙ ap (index_of_moment moments after) (sym (add-one (length schedule)))
 
 -- what a policy of moments reads before it notes a step: the thread's own number, and the index
 -- that the step gives
-pub record IsStep (events : List Moment) (schedule : List ℕ) (thread number index : ℕ) : Type
+pub record IsStep (moments : List Moment) (schedule : List ℕ) (thread number index : ℕ) : Type
     0 where
   pub own : number ≡ steps_of schedule thread + 1
-  pub given : index ≡ index_of_moment events (schedule ++ thread ∷ []) (length schedule + 1)
-  pub low : index ≤ length events
+  pub given : index ≡ index_of_moment moments (schedule ++ thread ∷ []) (length schedule + 1)
+  pub low : index ≤ length moments
 
-pub step-is : (order own : List ℕ) (events items : List Moment) (schedule : List ℕ)
+pub step-is : (order own : List ℕ) (moments items : List Moment) (schedule : List ℕ)
     (thread before index : ℕ) → own ≡ own_counts order schedule → thread < length order
-    → before ≡ get_or own thread before → items ≡ events
+    → before ≡ get_or own thread before → items ≡ moments
     → index ≡ last_position (λ (e : Moment). eqb e.thread thread && eqb e.number (before + 1)) items
-    → IsStep events schedule thread (before + 1) index
-step-is order own events items schedule thread before index same within read seen found =
+    → IsStep moments schedule thread (before + 1) index
+step-is order own moments items schedule thread before index same within read seen found =
     let long = own_counts-threads order schedule own same in
     let counted : before ≡ steps_of schedule thread =
     get_or_read own thread before (omega arith) read 0
@@ -135,6 +135,6 @@ step-is order own events items schedule thread before index same within read see
     let is = found ∙ ap (last_position test) seen in
     record {
       own = number;
-      given = is ∙ last_position-moment schedule thread (before + 1) number events;
-      low = omega (arith, is, greatest-le (passes_at test events) (length events));
+      given = is ∙ last_position-moment schedule thread (before + 1) number moments;
+      low = omega (arith, is, greatest-le (passes_at test moments) (length moments));
     }

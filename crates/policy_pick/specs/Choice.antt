@@ -6,13 +6,13 @@ use Rattle.std.specs.Prelude.{[], ◌∷◌, ◌++◌, length}
 use Rattle.std.specs.Prelude.{slice_get, slice_index, slice_index_or, Option, Some, None}
 use Rattle.std.specs.Int.{bit_at}
 use Rattle.std.specs.List.{find, list_all, range_with_len}
-use Rattle.rank_now.specs.Rank.{ranks, ranks_by_events}
+use Rattle.rank_now.specs.Rank.{ranks, ranks_by_moments}
 use Rattle.policy_pick.specs.declared.chance.Chance.{Chance}
 use Rattle.policy_pick.specs.declared.chance.Chance.TheVariants.{Away, Ready, Blocked, Unknown}
 use Rattle.policy_pick.specs.declared.chance.Chance.TheVariants.{Ended}
 use Rattle.policy_pick.specs.declared.chance.Pick.{Pick}
 use Rattle.policy_pick.specs.declared.chance.Pick.TheVariants.{Thread, Waits, Nobody, Departs}
-use Rattle.policy_pick.specs.Plan.{Plan, ByPoints, ByEvents, ByList}
+use Rattle.policy_pick.specs.Plan.{Plan, ByPoints, ByMoments, ByList}
 
 -- the thread's chance; a thread that there isn't has ended
 abbrev pub chance_of : List Chance → ℕ → Chance
@@ -72,8 +72,8 @@ choice_by_list (Some thread) chances = pick_at (Thread thread) thread (chance_of
 abbrev pub choice : Plan → List ℕ → List Chance → Pick
 choice (ByPoints order points) schedule chances =
     choice_by_rank (ranks order points schedule) chances
-choice (ByEvents order events) schedule chances =
-    choice_by_rank (ranks_by_events order events schedule) chances
+choice (ByMoments order moments) schedule chances =
+    choice_by_rank (ranks_by_moments order moments schedule) chances
 choice (ByList listed) schedule chances =
     choice_by_list (slice_get listed (length schedule)) chances
 
@@ -94,8 +94,8 @@ OutranksBy ranks thread others =
 abbrev pub Outranks : Plan → List ℕ → ℕ → ℕ → Type 0
 Outranks (ByPoints order points) schedule thread others =
     OutranksBy (ranks order points schedule) thread others
-Outranks (ByEvents order events) schedule thread others =
-    OutranksBy (ranks_by_events order events schedule) thread others
+Outranks (ByMoments order moments) schedule thread others =
+    OutranksBy (ranks_by_moments order moments schedule) thread others
 Outranks (ByList listed) schedule thread others = ⊥
 
 -- the later chances say the same of each thread but one
@@ -128,7 +128,7 @@ TargetsAreAway chances =
 -- only a list of threads can be departed from
 abbrev pub MayDepart : Plan → Type 0
 MayDepart (ByPoints order points) = ⊥
-MayDepart (ByEvents order events) = ⊥
+MayDepart (ByMoments order moments) = ⊥
 MayDepart (ByList listed) = Unit {0}
 
 -- A picked thread is Ready, one that is waited for is Away, and where nobody is picked every thread

@@ -3,8 +3,8 @@ use Rattle.std.specs.Prelude.{◌≡◌, ℕ, ◌==◌, ◌≤◌, List, length,
 use Rattle.std.specs.List.{count_by}
 use Rattle.rank_now.specs.declared.moment.Moment.{Moment}
 use Rattle.rank_now.specs.Order.{IsOrder}
-use Rattle.rank_now.specs.Rank.{ranks, ranks_by_events, threads_of}
-use Rattle.policy_pick.specs.Plan.{Plan, ByPoints, ByEvents, ByList}
+use Rattle.rank_now.specs.Rank.{ranks, ranks_by_moments, threads_of}
+use Rattle.policy_pick.specs.Plan.{Plan, ByPoints, ByMoments, ByList}
 use Rattle.pct_ask.specs.declared.limits.TheConstants.{MAX_POINTS, MAX_THREADS}
 
 -- of a `Pct`: its order and points, how many steps were taken, and each thread's value
@@ -23,26 +23,26 @@ pub record PointsStand (kept : PointsKept) (schedule : List ℕ) : Type 0 where
   pub taken : kept.taken ≡ length schedule
   pub values : kept.values ≡ ranks kept.order kept.points schedule
 
--- of a `DirectedPolicy`: its order and events, each thread's value, and how many steps it took
-pub record EventsKept : Type 0 where
+-- of a `DirectedPolicy`: its order and moments, each thread's value, and how many steps it took
+pub record MomentsKept : Type 0 where
   pub order : List ℕ
-  pub events : List Moment
+  pub moments : List Moment
   pub values : List ℕ
   pub own : List ℕ
 
 -- its parameters
-abbrev pub events_plan : EventsKept → Plan
-events_plan kept = ByEvents kept.order kept.events
+abbrev pub moments_plan : MomentsKept → Plan
+moments_plan kept = ByMoments kept.order kept.moments
 
 -- how many steps of the schedule each thread of the order took
 abbrev pub own_counts : List ℕ → List ℕ → List ℕ
 own_counts order schedule =
     map (λ thread. count_by (λ taker. taker == thread) schedule) (threads_of order)
 
--- it stands for a schedule: the values are the ranks after it, by its events, and each thread's own
+-- it stands for a schedule: the values are the ranks after it, by its moments, and each thread's own
 -- steps are counted
-pub record EventsStand (kept : EventsKept) (schedule : List ℕ) : Type 0 where
-  pub values : kept.values ≡ ranks_by_events kept.order kept.events schedule
+pub record MomentsStand (kept : MomentsKept) (schedule : List ℕ) : Type 0 where
+  pub values : kept.values ≡ ranks_by_moments kept.order kept.moments schedule
   pub own : kept.own ≡ own_counts kept.order schedule
 
 -- of a `Listed`: the threads, and how many steps were taken

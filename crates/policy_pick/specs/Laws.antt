@@ -9,11 +9,11 @@ use Rattle.std.specs.List.{All}
 use Rattle.std.proofs.lemmas.Bool.{cases_lt}
 use Rattle.std.proofs.lemmas.List.{get_or_past}
 use Rattle.std.proofs.lemmas.List.Elements.{All-head, All-tail}
-use Rattle.rank_now.specs.Rank.{ranks, ranks_by_events}
+use Rattle.rank_now.specs.Rank.{ranks, ranks_by_moments}
 use Rattle.policy_pick.specs.declared.chance.Chance.{Chance}
 use Rattle.policy_pick.specs.declared.chance.Chance.TheVariants.{Ended}
 use Rattle.policy_pick.specs.declared.chance.Pick.TheVariants.{Thread}
-use Rattle.policy_pick.specs.Plan.{Plan, ByPoints, ByEvents, ByList, SpeaksOf}
+use Rattle.policy_pick.specs.Plan.{Plan, ByPoints, ByMoments, ByList, SpeaksOf}
 use Rattle.policy_pick.specs.Choice.{MayDepart, chance_of, pick_at, choice_by_list, choice}
 use Rattle.policy_pick.specs.Choice.{TargetsAreAway, IsSoundPick, KeepsKnown, IsWaits}
 use Rattle.policy_pick.specs.Laws.Chances.{pick-known, sound-at}
@@ -41,8 +41,8 @@ pub choice-keeps : (plan : Plan) (schedule : List ℕ) (earlier later : List Cha
     → choice plan schedule later ≡ choice plan schedule earlier
 choice-keeps (ByPoints order points) schedule earlier later keeps waits =
     rank-keeps (ranks order points schedule) earlier later keeps waits
-choice-keeps (ByEvents order events) schedule earlier later keeps waits =
-    rank-keeps (ranks_by_events order events schedule) earlier later keeps waits
+choice-keeps (ByMoments order moments) schedule earlier later keeps waits =
+    rank-keeps (ranks_by_moments order moments schedule) earlier later keeps waits
 choice-keeps (ByList listed) schedule earlier later keeps waits =
     listed-keeps (slice_get listed (length schedule)) earlier later keeps waits
 
@@ -65,8 +65,8 @@ pub choice-sound : (plan : Plan) (schedule : List ℕ) (chances : List Chance)
     → IsSoundPick plan chances (choice plan schedule chances)
 choice-sound (ByPoints order points) schedule chances speaks targets =
     rank-sound (ByPoints order points) (ranks order points schedule) chances targets
-choice-sound (ByEvents order events) schedule chances speaks targets =
-    rank-sound (ByEvents order events) (ranks_by_events order events schedule) chances targets
+choice-sound (ByMoments order moments) schedule chances speaks targets =
+    rank-sound (ByMoments order moments) (ranks_by_moments order moments schedule) chances targets
 choice-sound (ByList listed) schedule chances speaks targets =
     listed-sound (ByList listed) (slice_get listed (length schedule)) chances tt
     (λ thread e. holds-at (λ t. t < length chances) listed (length schedule) thread speaks.1 e)

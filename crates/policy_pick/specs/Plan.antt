@@ -10,7 +10,7 @@ pub data Plan : Type 0 where
   -- an order of the threads, and the change points of PCT
   ByPoints : List ℕ → List ℕ → Plan
   -- an order of the threads, and moments in the place of change points
-  ByEvents : List ℕ → List Moment → Plan
+  ByMoments : List ℕ → List Moment → Plan
   -- a list of threads, one a step
   ByList : List ℕ → Plan
 
@@ -18,13 +18,13 @@ pub data Plan : Type 0 where
 -- threads are below
 abbrev pub SpeaksOf : Plan → ℕ → Type 0
 SpeaksOf (ByPoints order points) threads = threads ≡ length order
-SpeaksOf (ByEvents order events) threads = threads ≡ length order
+SpeaksOf (ByMoments order moments) threads = threads ≡ length order
 SpeaksOf (ByList listed) threads = (threads ≤ MAX_THREADS) × All (λ thread. thread < threads) listed
 
 -- it goes by an order, and not by a list
 abbrev pub GoesByRank : Plan → Type 0
 GoesByRank (ByPoints order points) = Unit {0}
-GoesByRank (ByEvents order events) = Unit {0}
+GoesByRank (ByMoments order moments) = Unit {0}
 GoesByRank (ByList listed) = ⊥
 
 -- the thread is one of those

@@ -1,8 +1,8 @@
 ghost use Rattle.std.specs.Prelude.{◌≡◌, ℕ, ◌≤◌, ◌==◌, ◌&&◌, [], length, IfOk, ◌↔◌};
 ghost use Rattle.rank_now.specs.Order.{IsFirstWrong};
 ghost use Rattle.rank_now.specs.Positions.{last_position};
-ghost use Rattle.policy_pick.specs.Plan.{ByEvents};
-ghost use Rattle.policy_pick.specs.Kept.{events_plan, EventsStand};
+ghost use Rattle.policy_pick.specs.Plan.{ByMoments};
+ghost use Rattle.policy_pick.specs.Kept.{moments_plan, MomentsStand};
 ghost use Rattle.pct_ask.specs.declared.limits.TheConstants.{MAX_POINTS, MAX_THREADS};
 
 use crate::chance::{Chance, Pick};
@@ -17,35 +17,35 @@ use std::marker::Model;
 /// own step of a number.
 #[derive(Debug, Drop)]
 pub struct DirectedPolicy {
-    events: Vec<Moment>,
+    moments: Vec<Moment>,
     ranks: Ranks,
     own: Vec<u32>,
 }
 
 impl Model for DirectedPolicy {
     ghost use Rattle.std.specs.Prelude.{length};
-    ghost use Rattle.policy_pick.specs.Kept.{EventsKept, FitsOrder};
+    ghost use Rattle.policy_pick.specs.Kept.{MomentsKept, FitsOrder};
 
-    ghost Value = { EventsKept };
+    ghost Value = { MomentsKept };
 
     ghost view = { λ p. record {
       order = p.ranks.order;
-      events = p.events.items;
+      moments = p.moments.items;
       values = p.ranks.values;
       own = p.own.items;
     } };
 
     ghost invariant = { λ p.
-        FitsOrder p.ranks.order p.ranks.values p.ranks.count (length p.events.items) };
+        FitsOrder p.ranks.order p.ranks.values p.ranks.count (length p.moments.items) };
 }
 
 impl DirectedPolicy {
     /// The order names the highest thread first.
     pub fn new(alloc: Global, order: &[u32], events: &[Moment]) -> Result<DirectedPolicy, RankError>
         requires few_threads { length order.now ≤ MAX_THREADS }
-        requires few_events { length events.now ≤ MAX_POINTS }
-        ensures plan { IfOk result (λ p. events_plan p ≡ ByEvents order.now events.now) }
-        ensures stands { IfOk result (λ p. EventsStand p []) }
+        requires few_moments { length events.now ≤ MAX_POINTS }
+        ensures plan { IfOk result (λ p. moments_plan p ≡ ByMoments order.now events.now) }
+        ensures stands { IfOk result (λ p. MomentsStand p []) }
         ensures not_an_order { (at : ℕ)
             → (result ≡ Err (RankError.NotAnOrder at)) ↔ IsFirstWrong order.now at }
     {
@@ -70,43 +70,34 @@ impl DirectedPolicy {
     ) -> Result<DirectedPolicy, NoMemory>
         requires few_threads { length priorities.now.order.now ≤ MAX_THREADS }
         ensures plan { IfOk result (λ p.
-            events_plan p ≡ ByEvents priorities.now.order.now priorities.now.moments.now) }
-        ensures stands { IfOk result (λ p. EventsStand p []) }
+            moments_plan p ≡ ByMoments priorities.now.order.now priorities.now.moments.now) }
+        ensures stands { IfOk result (λ p. MomentsStand p []) }
     {
-        let spare = match spare {
-            Some(policy) => policy,
-            None => DirectedPolicy::of_nobody(alloc)?,
+        let (spare, mut moments, mut own) = match spare {
+            Some(policy) => (Some(policy.ranks), policy.moments, policy.own),
+            None => (None, Vec::new(alloc), Vec::new(alloc)),
         };
-        let ranks = spare
-            .ranks
-            .again(priorities.order, priorities.moments.len() as u32)?;
-        let mut own = spare.own;
+        let count = priorities.moments.len() as u32;
+        let ranks = Ranks::of_order(alloc, priorities.order, count, spare)?;
+        moments.clear();
+        moments.extend_from_slice(priorities.moments)?;
         own.clear();
         own.resize(priorities.order.len(), 0)?;
-        let mut events = spare.events;
-        events.clear();
-        events.extend_from_slice(priorities.moments)?;
-        Ok(DirectedPolicy { events, ranks, own })
-    }
-
-    /// A policy of no threads.
-    fn of_nobody(alloc: Global) -> Result<DirectedPolicy, NoMemory> {
-        let ranks = Ranks::of_order(alloc, &[], 0)?;
         Ok(DirectedPolicy {
-            events: Vec::new(alloc),
+            moments,
             ranks,
-            own: Vec::new(alloc),
+            own,
         })
     }
 }
 
 impl Policy for DirectedPolicy {
-    ghost use Rattle.policy_pick.specs.Kept.{events_plan, EventsStand};
+    ghost use Rattle.policy_pick.specs.Kept.{moments_plan, MomentsStand};
     ghost use Rattle.policy_pick.specs.Laws.{choice-keeps, choice-sound};
 
-    ghost plan = { events_plan };
+    ghost plan = { moments_plan };
 
-    ghost stands = { EventsStand };
+    ghost stands = { MomentsStand };
 
     fn pick(&self, chances: &[Chance]) -> Pick {
         pick_by_rank(&self.ranks, chances)
@@ -119,7 +110,7 @@ impl Policy for DirectedPolicy {
     fn took_and_kept(&mut self, thread: u32) -> bool {
         let number = self.own[thread as usize] + 1;
         self.own[thread as usize] = number;
-        let index = index_of_moment(&self.events, thread, number);
+        let index = index_of_moment(&self.moments, thread, number);
         if index > 0 {
             self.ranks.lower(thread, index);
             false
@@ -137,21 +128,21 @@ impl Policy for DirectedPolicy {
     }
 
     ghost keeps = { λ policy schedule earlier later speaks known waits.
-        choice-keeps (events_plan policy) schedule earlier later known waits };
+        choice-keeps (moments_plan policy) schedule earlier later known waits };
 
     ghost sound = { λ policy schedule chances speaks targets.
-        choice-sound (events_plan policy) schedule chances speaks targets };
+        choice-sound (moments_plan policy) schedule chances speaks targets };
 }
 
 /// The greatest index, from 1, of the moment that is this own step of the thread, and 0 where none
 /// is.
-fn index_of_moment(events: &[Moment], thread: u32, number: u32) -> u32
-    requires { length events.now ≤ MAX_POINTS }
-    ensures { result ≡ last_position (λ e. e.thread == thread && e.number == number) events.now }
+fn index_of_moment(moments: &[Moment], thread: u32, number: u32) -> u32
+    requires { length moments.now ≤ MAX_POINTS }
+    ensures { result ≡ last_position (λ moment. moment.thread == thread && moment.number == number) moments.now }
 {
     let mut index = 0;
-    for (place, event) in events.iter().enumerate() {
-        if event.thread == thread && event.number == number {
+    for (place, moment) in moments.iter().enumerate() {
+        if moment.thread == thread && moment.number == number {
             index = place as u32 + 1;
         }
     }

@@ -6,14 +6,17 @@
 //! - Each pick is the choice of its plan after the steps so far; a picked thread is ready, one that
 //!   is waited for is away, and where nobody is picked nobody can go on: `Policy::pick`: `choice`,
 //!   `sound` (`IsSoundPick`).
-//! - A step counts as one: `Policy::took`: `plan`, `stands`. Made of plain lists: `Pct::new`:
-//!   `plan`, `stands`, `not_an_order`; `DirectedPolicy::new`: `plan`, `stands`, `not_an_order`;
-//!   `Listed::new`: `plan`, `stands`. Made of an order that is one and of few points
-//!   (`Priorities`) or moments (`DirectedPriorities`), in the memory of another policy, where there
-//!   is one: `Pct::of_priorities`: `plan`, `stands`; `DirectedPolicy::of_priorities`: `plan`,
-//!   `stands`.
-//! - Where it answers that a thread outranks others, each of them but itself has a lower rank:
-//!   `Policy::outranks`, its clause (`Outranks`).
+//! - A step counts as one: `Policy::took`: `plan`, `stands`; `Policy::took_and_kept`: `plan`,
+//!   `stands`, and where it answers true the step changes no choice: `same` (`KeepsChoices`).
+//! - Made of plain lists: `Pct::new`: `plan`, `stands`, `not_an_order`; `DirectedPolicy::new`:
+//!   `plan`, `stands`, `not_an_order`; `Listed::new`: `plan`, `stands`. Made of an order that is
+//!   one and of few points (`Priorities`) or moments (`DirectedPriorities`), in the memory of
+//!   another policy, where there is one: `Pct::of_priorities`: `plan`, `stands`;
+//!   `DirectedPolicy::of_priorities`: `plan`, `stands`.
+//! - Where it answers that it goes by ranks, the open thread of greatest rank is the one that goes,
+//!   or that is waited for: `Policy::goes_by_rank`, its clause (`GoesByRank`); where it answers
+//!   that a thread outranks others, each of them but itself has a lower rank: `Policy::outranks`,
+//!   its clause (`Outranks`).
 //! - A choice that waits for nobody stays as more becomes known: `Policy`: `keeps`.
 //! - Whether a walk over the threads stops at one with this chance: `is_open`, its clause.
 #![tactic(auto)]

@@ -68,28 +68,16 @@ impl Pct {
             points_plan p ≡ ByPoints priorities.now.order.now priorities.now.points.now) }
         ensures stands { IfOk result (λ p. PointsStand p []) }
     {
-        let spare = match spare {
-            Some(policy) => policy,
-            None => Pct::of_nobody(alloc)?,
+        let (spare, mut points) = match spare {
+            Some(policy) => (Some(policy.ranks), policy.points),
+            None => (None, Vec::new(alloc)),
         };
-        let ranks = spare
-            .ranks
-            .again(priorities.order, priorities.points.len() as u32)?;
-        let mut points = spare.points;
+        let count = priorities.points.len() as u32;
+        let ranks = Ranks::of_order(alloc, priorities.order, count, spare)?;
         points.clear();
         points.extend_from_slice(priorities.points)?;
         Ok(Pct {
             points,
-            ranks,
-            taken: 0,
-        })
-    }
-
-    /// A policy of no threads.
-    fn of_nobody(alloc: Global) -> Result<Pct, NoMemory> {
-        let ranks = Ranks::of_order(alloc, &[], 0)?;
-        Ok(Pct {
-            points: Vec::new(alloc),
             ranks,
             taken: 0,
         })

@@ -1,16 +1,10 @@
 -- Orders of n threads, and the list of places of each.
 use Rattle.std.specs.Prelude.{◌≡◌, ℕ, ◌-◌, ◌<◌, nat_lt, List, [], ◌∷◌, length, slice_index, remove}
 use Rattle.std.specs.List.{count_by, range_with_len}
-use Rattle.rank_now.specs.Order.{IsOrder}
 
 -- the threads as they are declared
 abbrev pub declared_order : ℕ → List ℕ
 declared_order threads = range_with_len 0 threads
-
--- an order of so many threads
-pub record IsOrderOf (threads : ℕ) (order : List ℕ) : Type 0 where
-  pub whole : length order ≡ threads
-  pub is_order : IsOrder order
 
 -- places, from 0, with the bounds n, n-1, .., 1
 pub record AreInBounds (threads : ℕ) (places : List ℕ) : Type 0 where

@@ -1,7 +1,8 @@
 ghost use Rattle.std.specs.Prelude.{◌≡◌, ℕ, ◌+◌, ◌*◌, ◌<◌, ◌≤◌, ◌∷◌, List, All, length};
 ghost use Rattle.std.specs.Prelude.{slice_index, remove, IfOk, OnOk, OnErr};
 ghost use Rattle.priority_draw.specs.Words.{words_later, first_words};
-ghost use Rattle.priority_draw.specs.Orders.{declared_order, order_of, places_of, IsOrderOf};
+ghost use Rattle.rank_now.specs.Order.{IsOrderOf};
+ghost use Rattle.priority_draw.specs.Orders.{declared_order, order_of, places_of};
 ghost use Rattle.priority_draw.specs.Orders.{AreInBounds, AreOnlyPlaces};
 ghost use Rattle.priority_draw.specs.Drawing.{scale, draw, drawn_places, drawn_order, drawn_points};
 ghost use Rattle.priority_draw.specs.Drawing.{draw_of_seed, IsStepOfPoint};
@@ -107,7 +108,7 @@ impl Words {
         ensures words { OnOk result (self.new ≡ words_later self.old (2 * count)) }
         ensures no_memory { OnErr result (self.new ≡ self.old) }
 
-        // After the seed's order of so many threads they are the seed's points.
+        // After the seed's order of its threads they are the seed's points.
         ensures of_seed { IfOk result (λ points.
             (seed threads depth : ℕ) → self.old ≡ words_later (first_words seed) (2 * threads)
             → depth ≡ count + 1 → points ≡ (draw_of_seed seed threads steps depth).points) }

@@ -50,12 +50,12 @@ is_moment schedule step moment =
 
 -- the index that a step gives by moments: the greatest index of one that is this step
 abbrev pub index_of_moment : List Moment → List ℕ → ℕ → ℕ
-index_of_moment events schedule step = last_position (is_moment schedule step) events
+index_of_moment moments schedule step = last_position (is_moment schedule step) moments
 
 -- a thread's rank after a schedule, by an order and moments in the place of change points
-abbrev pub rank_by_events : List ℕ → List Moment → List ℕ → ℕ → ℕ
-rank_by_events order events schedule thread =
-    rank_by (index_of_moment events schedule) (length events) order schedule thread
+abbrev pub rank_by_moments : List ℕ → List Moment → List ℕ → ℕ → ℕ
+rank_by_moments order moments schedule thread =
+    rank_by (index_of_moment moments schedule) (length moments) order schedule thread
 
 -- the threads of an order, by number
 abbrev pub threads_of : List ℕ → List ℕ
@@ -66,6 +66,6 @@ abbrev pub ranks : List ℕ → List ℕ → List ℕ → List ℕ
 ranks order points schedule = map (rank order points schedule) (threads_of order)
 
 -- the same by moments
-abbrev pub ranks_by_events : List ℕ → List Moment → List ℕ → List ℕ
-ranks_by_events order events schedule =
-    map (rank_by_events order events schedule) (threads_of order)
+abbrev pub ranks_by_moments : List ℕ → List Moment → List ℕ → List ℕ
+ranks_by_moments order moments schedule =
+    map (rank_by_moments order moments schedule) (threads_of order)

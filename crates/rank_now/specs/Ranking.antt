@@ -1,10 +1,11 @@
 -- What each thread's priority is now.
-use Rattle.std.specs.Prelude.{◌≡◌, ◌≢◌, ℕ, ◌+◌, ◌-◌, ◌<◌, ◌≤◌, ◌⊎◌, ◌↔◌, List, Option, Some}
-use Rattle.std.specs.Prelude.{None, length, nat_lt, if◌then◌else◌, slice_index, slice_index_or}
+use Rattle.std.specs.Prelude.{◌≡◌, ◌≢◌, ℕ, ◌+◌, ◌-◌, ◌<◌, ◌≤◌, ◌⊎◌, ◌↔◌, [], List, Option, Some}
+use Rattle.std.specs.Prelude.{None, length, map, nat_lt, if◌then◌else◌, slice_index, slice_index_or}
 use Rattle.std.specs.Int.{bit_at}
 use Rattle.std.specs.List.{count_by}
 use Rattle.rank_now.specs.Order.{IsOrder}
-use Rattle.rank_now.specs.Rank.{place_in_order}
+use Rattle.rank_now.specs.Rank.{place_in_order, threads_of, ranks, ranks_by_moments}
+use Rattle.rank_now.specs.declared.moment.Moment.{Moment}
 use Rattle.pct_ask.specs.declared.limits.TheConstants.{MAX_POINTS, MAX_THREADS}
 
 -- the order of the threads, how many values there are to give below those that it gives, and each
@@ -23,6 +24,20 @@ abbrev pub AreDistinctValues : List ℕ → Type 0
 AreDistinctValues values =
     (first second : ℕ) → first < length values → second < length values
     → slice_index values first ≡ slice_index values second → first ≡ second
+
+-- the ranking before the first step (PCT): each thread has a value by its place in the order, above
+-- all `count` values that are to be given
+pub record IsFirstRanking (order : List ℕ) (count : ℕ) (ranking : Ranking) : Type 0 where
+  pub ordered : ranking.order ≡ order
+  pub counted : ranking.count ≡ count
+  pub values : ranking.values
+      ≡ map (λ t. count + length order - place_in_order order t) (threads_of order)
+  pub distinct : AreDistinctValues ranking.values
+  -- These are the ranks by change points and by moments, so many as there are values to give.
+  pub by_points : (points : List ℕ) → length points ≡ count
+      → ranking.values ≡ ranks order points []
+  pub by_moments : (moments : List Moment) → length moments ≡ count
+      → ranking.values ≡ ranks_by_moments order moments []
 
 -- the thread stands at the place of the walk by falling value
 pub record IsAtPlace (values : List ℕ) (place thread : ℕ) : Type 0 where

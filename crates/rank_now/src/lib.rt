@@ -4,10 +4,10 @@
 //! What is proved, by call and clause; in parentheses the definitions:
 //!
 //! - The values are PCT's ranks of the whole schedule, stay distinct, and the order stays: a
-//!   lowered thread keeps its place below all that weren't lowered: `Ranks::new`: `order`,
-//!   `values`, `distinct`, `by_points`, `by_events`; `Ranks::of_order` and, in the memory of
-//!   others, `Ranks::again`, the same clauses; `Ranks::lower`: `order`, `values`, `distinct`,
-//!   `by_points`, `by_events`; `Ranks::value`; `Ranks::greatest`: `value`, `bound`.
+//!   lowered thread keeps its place below all that weren't lowered: `Ranks::new`: `first`,
+//!   `is_order`; `Ranks::of_order`, its clause, also in the memory of others (`IsFirstRanking`);
+//!   `Ranks::lower`: `order`, `values`, `distinct`, `by_points`, `by_moments`; `Ranks::value`;
+//!   `Ranks::greatest`: `value`, `bound`.
 //! - `holder` gives the thread with a value, or says that none has it; `walk` the one with that
 //!   many above it: `Ranks::holder`: `some`, `none`; `Ranks::walk`: `at_place`, `only`.
 //! - A thread outranks others exactly where none of them has a greater value: `Ranks::outranks`:

@@ -2,11 +2,11 @@ ghost use Rattle.std.specs.Prelude.{◌≡◌, ◌≢◌, ℕ, ◌+◌, ◌-◌,
 ghost use Rattle.std.specs.Prelude.{length, map, slice_set, slice_index, IfOk, OnOk, IfSome};
 ghost use Rattle.std.specs.Prelude.{IsNone, IsTrue};
 ghost use Rattle.std.specs.Int.{bit_at};
-ghost use Rattle.rank_now.specs.Rank.{place_in_order, threads_of, ranks, ranks_by_events};
-ghost use Rattle.rank_now.specs.Rank.{index_of_point};
-ghost use Rattle.rank_now.specs.Rank.{index_of_moment};
+ghost use Rattle.rank_now.specs.Rank.{place_in_order, threads_of, ranks, ranks_by_moments};
+ghost use Rattle.rank_now.specs.Rank.{index_of_point, index_of_moment};
 ghost use Rattle.rank_now.specs.Order.{IsOrder, IsFirstWrong};
-ghost use Rattle.rank_now.specs.Ranking.{Ranking, AreDistinctValues, HasValue, IsAtPlace};
+ghost use Rattle.rank_now.specs.Ranking.{Ranking, IsFirstRanking, AreDistinctValues, HasValue};
+ghost use Rattle.rank_now.specs.Ranking.{IsAtPlace};
 ghost use Rattle.rank_now.specs.declared.moment.Moment.{Moment};
 ghost use Rattle.pct_ask.specs.declared.limits.TheConstants.{MAX_POINTS, MAX_THREADS};
 
@@ -48,87 +48,52 @@ impl Ranks {
     pub fn new(alloc: Global, order: &[u32], count: u32) -> Result<Ranks, RankError>
         requires few_threads { length order.now ≤ MAX_THREADS }
         requires few_points { count ≤ MAX_POINTS }
-        ensures order { IfOk result (λ r. r.order ≡ order.now) }
-        ensures count { IfOk result (λ r. r.count ≡ count) }
-        ensures values { IfOk result (λ r.
-            r.values
-            ≡ map (λ t. count + length order.now - place_in_order order.now t)
-            (threads_of order.now)) }
-        ensures distinct { IfOk result (λ r. AreDistinctValues r.values) }
-
-        // These are the ranks before the first step.
-        ensures by_points { IfOk result (λ r.
-            (points : List ℕ) → length points ≡ count → r.values ≡ ranks order.now points []) }
-        ensures by_events { IfOk result (λ r.
-            (events : List Moment) → length events ≡ count
-            → r.values ≡ ranks_by_events order.now events []) }
-
+        ensures first { IfOk result (IsFirstRanking order.now count) }
         ensures is_order { OnOk result (IsOrder order.now) }
         ensures not_an_order { (at : ℕ)
             → (result ≡ Err (RankError.NotAnOrder at)) ↔ IsFirstWrong order.now at }
     {
         match first_wrong(order) {
             Some(at) => Err(RankError::NotAnOrder { at }),
-            None => Ok(Ranks::of_order(alloc, order, count)?),
+            None => Ok(Ranks::of_order(alloc, order, count, None)?),
         }
     }
 
-    /// The ranks before the first step of a list that is an order.
-    pub fn of_order(alloc: Global, order: &[u32], count: u32) -> Result<Ranks, AllocError>
+    /// The ranks before the first step of a list that is an order, in the memory of other ranks,
+    /// where there are some, which nobody needs any more. Memory is taken only where that is too
+    /// small.
+    pub fn of_order(
+        alloc: Global,
+        order: &[u32],
+        count: u32,
+        spare: Option<Ranks>,
+    ) -> Result<Ranks, AllocError>
         requires order { IsOrder order.now }
         requires few_threads { length order.now ≤ MAX_THREADS }
         requires few_points { count ≤ MAX_POINTS }
-        ensures order { IfOk result (λ r. r.order ≡ order.now) }
-        ensures count { IfOk result (λ r. r.count ≡ count) }
-        ensures values { IfOk result (λ r.
-            r.values
-            ≡ map (λ t. count + length order.now - place_in_order order.now t)
-            (threads_of order.now)) }
-        ensures distinct { IfOk result (λ r. AreDistinctValues r.values) }
-        ensures by_points { IfOk result (λ r.
-            (points : List ℕ) → length points ≡ count → r.values ≡ ranks order.now points []) }
-        ensures by_events { IfOk result (λ r.
-            (events : List Moment) → length events ≡ count
-            → r.values ≡ ranks_by_events order.now events []) }
+        ensures { IfOk result (IsFirstRanking order.now count) }
     {
-        let empty = Ranks {
-            order: Vec::new(alloc),
-            values: Vec::new(alloc),
-            lowered: Vec::new(alloc),
-            above: Vec::new(alloc),
+        let spare = match spare {
+            Some(ranks) => ranks,
+            None => Ranks {
+                order: Vec::new(alloc),
+                values: Vec::new(alloc),
+                lowered: Vec::new(alloc),
+                above: Vec::new(alloc),
+            },
         };
-        empty.again(order, count)
-    }
-
-    /// The ranks of another order, as `of_order` gives them, in the memory of these. Memory is
-    /// taken only where that is too small.
-    pub fn again(mut self, order: &[u32], count: u32) -> Result<Ranks, AllocError>
-        requires order { IsOrder order.now }
-        requires few_threads { length order.now ≤ MAX_THREADS }
-        requires few_points { count ≤ MAX_POINTS }
-        ensures order { IfOk result (λ r. r.order ≡ order.now) }
-        ensures count { IfOk result (λ r. r.count ≡ count) }
-        ensures values { IfOk result (λ r.
-            r.values
-            ≡ map (λ t. count + length order.now - place_in_order order.now t)
-            (threads_of order.now)) }
-        ensures distinct { IfOk result (λ r. AreDistinctValues r.values) }
-        ensures by_points { IfOk result (λ r.
-            (points : List ℕ) → length points ≡ count → r.values ≡ ranks order.now points []) }
-        ensures by_events { IfOk result (λ r.
-            (events : List Moment) → length events ≡ count
-            → r.values ≡ ranks_by_events order.now events []) }
-    {
-        let values = first_values(self.values, order, count)?;
-        let above = first_above(self.above, order)?;
-        self.lowered.clear();
-        self.lowered.resize(count as usize, None)?;
-        self.order.clear();
-        self.order.extend_from_slice(order)?;
+        let values = first_values(spare.values, order, count)?;
+        let above = first_above(spare.above, order)?;
+        let mut lowered = spare.lowered;
+        lowered.clear();
+        lowered.resize(count as usize, None)?;
+        let mut threads = spare.order;
+        threads.clear();
+        threads.extend_from_slice(order)?;
         Ok(Ranks {
-            order: self.order,
+            order: threads,
             values,
-            lowered: self.lowered,
+            lowered,
             above,
         })
     }
@@ -150,10 +115,10 @@ impl Ranks {
             → self.old.values ≡ ranks order points schedule
             → value ≡ index_of_point points (length schedule + 1)
             → self.new.values ≡ ranks order points (schedule ++ thread ∷ []) }
-        ensures by_events { (order : List ℕ) (events : List Moment) (schedule : List ℕ)
-            → self.old.values ≡ ranks_by_events order events schedule
-            → value ≡ index_of_moment events (schedule ++ thread ∷ []) (length schedule + 1)
-            → self.new.values ≡ ranks_by_events order events (schedule ++ thread ∷ []) }
+        ensures by_moments { (order : List ℕ) (moments : List Moment) (schedule : List ℕ)
+            → self.old.values ≡ ranks_by_moments order moments schedule
+            → value ≡ index_of_moment moments (schedule ++ thread ∷ []) (length schedule + 1)
+            → self.new.values ≡ ranks_by_moments order moments (schedule ++ thread ∷ []) }
     {
         free(&mut self.lowered, self.values[thread as usize]);
         self.values[thread as usize] = value;

@@ -106,7 +106,7 @@ fn lists_and_orders(rt: HostRuntime) -> Result<(), Fail> {
     }
     let list = [2, 0, 1];
     assert!(rt; is_order(&list));
-    let ranks = Ranks::of_order(alloc, &list, 1)?;
+    let ranks = Ranks::of_order(alloc, &list, 1, None)?;
     assert_eq!(rt; ranks.greatest(), 4);
     Ok(())
 }
@@ -166,14 +166,14 @@ fn ranks_made_again(rt: HostRuntime) -> Result<(), Fail> {
     let lowered = kept_ranks(&rt, rt.alloc(), &[2, 0, 1], 2, &[2, 0], &[1, 2])?;
     let two = [1, 0];
     assert!(rt; is_order(&two));
-    let fewer = lowered.again(&two, 1)?;
+    let fewer = Ranks::of_order(rt.alloc(), &two, 1, Some(lowered))?;
     assert_eq!(rt; fewer.greatest(), 3);
     assert_eq!(rt; fewer.holder(3), Some(1));
     assert_eq!(rt; fewer.holder(2), Some(0));
     assert_eq!(rt; fewer.holder(1), None);
     let four = [3, 1, 0, 2];
     assert!(rt; is_order(&four));
-    let more = fewer.again(&four, 3)?;
+    let more = Ranks::of_order(rt.alloc(), &four, 3, Some(fewer))?;
     assert_eq!(rt; more.greatest(), 7);
     for (place, thread) in four.iter().enumerate() {
         assert_eq!(rt; more.holder(7 - place as u32), Some(*thread));

@@ -18,7 +18,7 @@ use Rattle.pct_ask.proofs.laws.SameVerdicts.{verdict-Decides}
 use Rattle.turn_book.specs.Chances.{threads_below}
 use Rattle.choices.specs.Orders.{factorial, orders_ending, orders_by, orders, low_orders}
 use Rattle.choices.specs.PointLists.{IsWithin, pointlists}
-use Rattle.choices.specs.Counting.{Leads, has_verdict, hits_under, hits}
+use Rattle.choices.specs.Counting.{LedRuns, has_verdict, hits_under, hits}
 use Rattle.choices.proofs.laws.OrderLists.{get-left, get-right, get-map, length-low-orders}
 use Rattle.choices.proofs.laws.OrderLists.{length-threads, thread-at}
 
@@ -88,7 +88,7 @@ one-counted test (y ∷ xs) (suc k) x is passes =
     omega (arith, sum_by-cons (λ z. cond (test z) 1 0) y xs, one-counted test xs k x is passes)
 
 -- an order that is led to the verdict by some listed points
-pub order-hits : (leads : Leads) (order points : List ℕ) (made : List Event) (verdict : Verdict)
+pub order-hits : (leads : LedRuns) (order points : List ℕ) (made : List Event) (verdict : Verdict)
     (k many : ℕ) → length points ≡ many → All (IsWithin k) points
     → leads order points ≡ Some (made, verdict)
     → 1 ≤ hits_under leads order (pointlists k many) verdict
@@ -168,7 +168,7 @@ counted-by (suc n) bound total power some few is =
 
 -- Where each order that places a thread last is led to the verdict by some listed points, there
 -- are as many choices that lead to it as such orders;
-pub least-hits : (leads : Leads) (threads low k many : ℕ) (verdict : Verdict) → low < threads
+pub least-hits : (leads : LedRuns) (threads low k many : ℕ) (verdict : Verdict) → low < threads
     → All (λ order. 1 ≤ hits_under leads order (pointlists k many) verdict)
     (low_orders threads low) → factorial (threads - 1) ≤ hits leads threads k many verdict
 least-hits leads threads low k many verdict within each =
@@ -181,7 +181,7 @@ least-hits leads threads low k many verdict within each =
     )
 
 -- so of the n! k^m choices at least one in n k^m leads to it.
-pub count-holds : (leads : Leads) (threads low k many bound : ℕ) (verdict : Verdict)
+pub count-holds : (leads : LedRuns) (threads low k many bound : ℕ) (verdict : Verdict)
     → low < threads → All (λ order. 1 ≤ hits_under leads order (pointlists k many) verdict)
     (low_orders threads low) → bound ≡ threads * k ^ many
     → factorial threads * k ^ many ≤ hits leads threads k many verdict * bound

@@ -12,7 +12,8 @@ use Rattle.std.proofs.lemmas.List.Elements.{All-nil, All-cons, All-head, All-tai
 use Rattle.turn_book.specs.Chances.{threads_below}
 use Rattle.choices.specs.Orders.{factorial, orders_ending, orders_by, orders}
 use Rattle.choices.specs.PointLists.{IsWithin, pointlists}
-use Rattle.choices.specs.Laws.{IsOrderOf, ArePoints, HasEachOnce}
+use Rattle.rank_now.specs.Order.{IsOrderOf}
+use Rattle.choices.specs.Laws.{ArePoints, HasEachOnce}
 use Rattle.choices.proofs.laws.OrderLists.{Arranges, length-orders_by, length-threads}
 use Rattle.choices.proofs.laws.OrderLists.{range-at, same-order, order-same, orders-all}
 use Rattle.choices.proofs.laws.OrderLists.{order-listed}

@@ -7,14 +7,14 @@ use Rattle.std.specs.List.{find}
 use Rattle.std.proofs.lemmas.Bool.{cases_eq}
 use Rattle.std.proofs.lemmas.List.FromFn.{length-map-range_with_len}
 use Rattle.std.proofs.lemmas.Nat.Bits.{bit_at-lt, bit_at-zero}
-use Rattle.rank_now.specs.Rank.{rank, rank_by_events, ranks, ranks_by_events}
+use Rattle.rank_now.specs.Rank.{rank, rank_by_moments, ranks, ranks_by_moments}
 use Rattle.std.specs.Prelude.{slice_get}
 use Rattle.policy_pick.specs.declared.chance.Chance.{Chance}
 use Rattle.policy_pick.specs.declared.chance.Chance.TheVariants.{Away, Ready, Blocked, Unknown}
 use Rattle.policy_pick.specs.declared.chance.Chance.TheVariants.{Ended}
 use Rattle.policy_pick.specs.declared.chance.Pick.{Pick}
 use Rattle.policy_pick.specs.declared.chance.Pick.TheVariants.{Thread, Waits, Departs}
-use Rattle.policy_pick.specs.Plan.{Plan, ByPoints, ByEvents, ByList, GoesByRank, SpeaksOf}
+use Rattle.policy_pick.specs.Plan.{Plan, ByPoints, ByMoments, ByList, GoesByRank, SpeaksOf}
 use Rattle.policy_pick.specs.Choice.{chance_of, is_open, pick_at, threads_of_chances, is_highest}
 use Rattle.policy_pick.specs.Choice.{choice_by_rank, choice_by_number, choice_by_list, choice}
 use Rattle.policy_pick.specs.Choice.{SameOthers, OpensOnly, HasAwayTarget, TargetsAreAway}
@@ -203,11 +203,11 @@ choice-step (ByPoints order points) schedule thread opened earlier later speaks 
     rank-step (ranks order points schedule) thread opened earlier later opens
     (lower-by (ranks order points schedule) thread opened (length earlier) (long ∙ sym speaks)
     says) was away
-choice-step (ByEvents order events) schedule thread opened earlier later speaks opens says was
+choice-step (ByMoments order moments) schedule thread opened earlier later speaks opens says was
     away =
-    let long = length-map-range_with_len (rank_by_events order events schedule) 0 (length order) in
-    rank-step (ranks_by_events order events schedule) thread opened earlier later opens
-    (lower-by (ranks_by_events order events schedule) thread opened (length earlier)
+    let long = length-map-range_with_len (rank_by_moments order moments schedule) 0 (length order) in
+    rank-step (ranks_by_moments order moments schedule) thread opened earlier later opens
+    (lower-by (ranks_by_moments order moments schedule) thread opened (length earlier)
     (long ∙ sym speaks) says) was away
 choice-step (ByList listed) schedule thread opened earlier later speaks opens says was away =
     list-step (slice_get listed (length schedule)) thread earlier later was away
@@ -219,6 +219,6 @@ pub choice-post : (plan : Plan) (schedule : List ℕ) (thread : ℕ) (earlier la
     → choice plan schedule later ≡ Thread thread
 choice-post (ByPoints order points) schedule thread earlier later by same targets was ready =
     rank-post (ranks order points schedule) thread earlier later same targets was ready
-choice-post (ByEvents order events) schedule thread earlier later by same targets was ready =
-    rank-post (ranks_by_events order events schedule) thread earlier later same targets was ready
+choice-post (ByMoments order moments) schedule thread earlier later by same targets was ready =
+    rank-post (ranks_by_moments order moments schedule) thread earlier later same targets was ready
 choice-post (ByList listed) schedule thread earlier later by same targets was ready = absurd by

@@ -6,7 +6,8 @@ use Rattle.std.proofs.lemmas.Bool.{cases_lt}
 use Rattle.std.proofs.lemmas.List.{get_or_default}
 use Rattle.std.proofs.lemmas.List.Edits.{length-remove, get_or-remove_below}
 use Rattle.std.proofs.lemmas.List.FromFn.{length-range_with_len, get_or-range_with_len}
-use Rattle.priority_draw.specs.Orders.{declared_order, IsOrderOf, AreInBounds, taken_from, order_of}
+use Rattle.rank_now.specs.Order.{IsOrderOf}
+use Rattle.priority_draw.specs.Orders.{declared_order, AreInBounds, taken_from, order_of}
 use Rattle.priority_draw.specs.Orders.{places_of, AreOnlyPlaces}
 use Rattle.priority_draw.proofs.CountLemmas.{one_if, count_of, count-remove, count-none, count-all}
 use Rattle.priority_draw.proofs.CountLemmas.{count-some, located, count-once}

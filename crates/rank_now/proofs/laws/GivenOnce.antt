@@ -12,7 +12,7 @@ use Rattle.rank_now.specs.declared.moment.Moment.{Moment}
 use Rattle.rank_now.specs.Positions.{passes_at}
 use Rattle.rank_now.specs.Order.{IsOrder}
 use Rattle.rank_now.specs.Rank.{place_in_order, last_change, rank_by, index_of_point, own_steps}
-use Rattle.rank_now.specs.Rank.{is_moment, index_of_moment, threads_of, ranks, ranks_by_events}
+use Rattle.rank_now.specs.Rank.{is_moment, index_of_moment, threads_of, ranks, ranks_by_moments}
 use Rattle.rank_now.proofs.laws.Orders.{place-within-order}
 use Rattle.rank_now.proofs.laws.Positions.{greatest-le, greatest-agree, greatest-passes}
 use Rattle.rank_now.proofs.laws.Positions.{passes_at-append, passes_at-last, passes_at-agree}
@@ -127,25 +127,25 @@ module _ (schedule : List ℕ) (thread : ℕ) where
       ∙ ap (λ x. passes_at (λ taker. eqb taker moment.thread) schedule step
       && eqb x moment.number) (own_steps-earlier moment.thread step within)
 
-  moment-earlier : (events : List Moment) (step : ℕ) → 0 < step → step ≤ length schedule
-      → index_of_moment events after step ≡ index_of_moment events schedule step
-  moment-earlier events step low within =
-      greatest-agree (passes_at (is_moment after step) events)
-      (passes_at (is_moment schedule step) events) (length events)
+  moment-earlier : (moments : List Moment) (step : ℕ) → 0 < step → step ≤ length schedule
+      → index_of_moment moments after step ≡ index_of_moment moments schedule step
+  moment-earlier moments step low within =
+      greatest-agree (passes_at (is_moment after step) moments)
+      (passes_at (is_moment schedule step) moments) (length moments)
       (λ k p q. passes_at-agree (is_moment after step) (is_moment schedule step)
-      (is_moment-earlier step within) events k)
+      (is_moment-earlier step within) moments k)
 
   -- no moment is two steps
-  moment-once : (events : List Moment) (step : ℕ) → step ≤ length schedule
-      → 0 < index_of_moment events after step
-      → index_of_moment events after step ≢ index_of_moment events after (suc (length schedule))
-  moment-once events step within some e =
-      let a = greatest-passes (passes_at (is_moment after step) events) (length events) some in
-      let b = greatest-passes (passes_at (is_moment after (suc (length schedule))) events)
-      (length events) (omega (arith, e)) in
-      let w = passes_at-both (is_moment after step) (is_moment after (suc (length schedule))) events
-      (index_of_moment events after step) a
-      (ap (passes_at (is_moment after (suc (length schedule))) events) e ∙ b) in
+  moment-once : (moments : List Moment) (step : ℕ) → step ≤ length schedule
+      → 0 < index_of_moment moments after step
+      → index_of_moment moments after step ≢ index_of_moment moments after (suc (length schedule))
+  moment-once moments step within some e =
+      let a = greatest-passes (passes_at (is_moment after step) moments) (length moments) some in
+      let b = greatest-passes (passes_at (is_moment after (suc (length schedule))) moments)
+      (length moments) (omega (arith, e)) in
+      let w = passes_at-both (is_moment after step) (is_moment after (suc (length schedule))) moments
+      (index_of_moment moments after step) a
+      (ap (passes_at (is_moment after (suc (length schedule))) moments) e ∙ b) in
       let m = w.0 in
       let first = and_parts (passes_at (λ taker. eqb taker m.thread) after step)
       (eqb (own_steps after m.thread step) m.number) w.1 in
@@ -165,43 +165,43 @@ module _ (schedule : List ℕ) (thread : ℕ) where
       let same = own_steps-earlier m.thread step within in
       omega (arith, early, late, last, few, same)
 
-module _ (order : List ℕ) (events : List Moment) (schedule : List ℕ) (thread : ℕ) where
+module _ (order : List ℕ) (moments : List Moment) (schedule : List ℕ) (thread : ℕ) where
   abbrev next : ℕ
-  next = index_of_moment events (schedule ++ thread ∷ []) (length schedule + 1)
+  next = index_of_moment moments (schedule ++ thread ∷ []) (length schedule + 1)
 
-  next-is : next ≡ index_of_moment events (schedule ++ thread ∷ []) (suc (length schedule))
-  next-is = ap (index_of_moment events (schedule ++ thread ∷ [])) (add-one (length schedule))
+  next-is : next ≡ index_of_moment moments (schedule ++ thread ∷ []) (suc (length schedule))
+  next-is = ap (index_of_moment moments (schedule ++ thread ∷ [])) (add-one (length schedule))
 
   -- the ranks after a step that is a moment, and after one that is none
-  pub ranks_by_events-step : (values : List ℕ) (value : ℕ) → 0 < value → value ≡ next
-      → values ≡ ranks_by_events order events schedule
-      → set values thread value ≡ ranks_by_events order events (schedule ++ thread ∷ [])
-  ranks_by_events-step values value some is same =
-      ranks_by-step (index_of_moment events schedule)
-      (index_of_moment events (schedule ++ thread ∷ [])) (length events) order schedule thread
-      (moment-earlier schedule thread events) values value some (is ∙ next-is) same
+  pub ranks_by_moments-step : (values : List ℕ) (value : ℕ) → 0 < value → value ≡ next
+      → values ≡ ranks_by_moments order moments schedule
+      → set values thread value ≡ ranks_by_moments order moments (schedule ++ thread ∷ [])
+  ranks_by_moments-step values value some is same =
+      ranks_by-step (index_of_moment moments schedule)
+      (index_of_moment moments (schedule ++ thread ∷ [])) (length moments) order schedule thread
+      (moment-earlier schedule thread moments) values value some (is ∙ next-is) same
 
-  pub ranks_by_events-same : next ≡ 0
-      → ranks_by_events order events schedule
-      ≡ ranks_by_events order events (schedule ++ thread ∷ [])
-  ranks_by_events-same none =
-      ranks_by-same (index_of_moment events schedule)
-      (index_of_moment events (schedule ++ thread ∷ [])) (length events) order schedule thread
-      (moment-earlier schedule thread events) (sym next-is ∙ none)
+  pub ranks_by_moments-same : next ≡ 0
+      → ranks_by_moments order moments schedule
+      ≡ ranks_by_moments order moments (schedule ++ thread ∷ [])
+  ranks_by_moments-same none =
+      ranks_by-same (index_of_moment moments schedule)
+      (index_of_moment moments (schedule ++ thread ∷ [])) (length moments) order schedule thread
+      (moment-earlier schedule thread moments) (sym next-is ∙ none)
 
-  pub ranks_by_events-free : IsOrder order → (values : List ℕ) (value : ℕ) → 0 < value
-      → value ≡ next → values ≡ ranks_by_events order events schedule → (other : ℕ)
+  pub ranks_by_moments-free : IsOrder order → (values : List ℕ) (value : ℕ) → 0 < value
+      → value ≡ next → values ≡ ranks_by_moments order moments schedule → (other : ℕ)
       → other < length values → get_or values other 0 ≢ value
-  ranks_by_events-free ordered values value some is same =
-      ranks_by-free (index_of_moment events schedule) (length events) order schedule ordered value
+  ranks_by_moments-free ordered values value some is same =
+      ranks_by-free (index_of_moment moments schedule) (length moments) order schedule ordered value
       (omega (
         arith,
         is,
         greatest-le (passes_at
-            (is_moment (schedule ++ thread ∷ []) (length schedule + 1)) events) (length events),
+            (is_moment (schedule ++ thread ∷ []) (length schedule + 1)) moments) (length moments),
       ))
-      (λ step low high e. let early = moment-earlier schedule thread events step low high in
-      moment-once schedule thread events step high (omega (arith, e, early))
+      (λ step low high e. let early = moment-earlier schedule thread moments step low high in
+      moment-once schedule thread moments step high (omega (arith, e, early))
       (early ∙ e ∙ is ∙ next-is)) values same
 
 -- ---- before the first step
@@ -223,11 +223,11 @@ ranks-first order points values count same is =
     (λ t. ap (λ x. x + length order - place_in_order order t) (sym same)
     ∙ sym (rank_by-first (index_of_point points) (length points) order t)) (threads_of order)
 
-pub ranks_by_events-first : (order : List ℕ) (events : List Moment) (values : List ℕ) (count : ℕ)
-    → length events ≡ count → values ≡ map (λ t. count + length order - place_in_order order t)
-    (threads_of order) → values ≡ ranks_by_events order events []
-ranks_by_events-first order events values count same is =
+pub ranks_by_moments-first : (order : List ℕ) (moments : List Moment) (values : List ℕ) (count : ℕ)
+    → length moments ≡ count → values ≡ map (λ t. count + length order - place_in_order order t)
+    (threads_of order) → values ≡ ranks_by_moments order moments []
+ranks_by_moments-first order moments values count same is =
     is ∙ same_maps (λ t. count + length order - place_in_order order t)
-    (rank_by (index_of_moment events []) (length events) order [])
+    (rank_by (index_of_moment moments []) (length moments) order [])
     (λ t. ap (λ x. x + length order - place_in_order order t) (sym same)
-    ∙ sym (rank_by-first (index_of_moment events []) (length events) order t)) (threads_of order)
+    ∙ sym (rank_by-first (index_of_moment moments []) (length moments) order t)) (threads_of order)

@@ -6,4 +6,4 @@ use Rattle.policy_pick.proofs.directed.index_of_moment.Given as goal
 abbrev pub invariant-loop-place : goal.invariant-loop-place
 invariant-loop-place l =
     l.index ≡ greatest_where (passes_at
-    (λ (e : Moment). eqb e.thread l.thread && eqb e.number l.number) l.events) l.place
+    (λ (e : Moment). eqb e.thread l.thread && eqb e.number l.number) l.moments) l.place

@@ -2,7 +2,8 @@ use Rattle.std.proofs.Common.{◌≡◌, ℕ, ◌*◌, List, length, ap, ◌∙�
 use Rattle.std.proofs.lemmas.Grind.{common_steps}
 use Rattle.std.proofs.lemmas.List.FromFn.{length-range_with_len}
 use Rattle.priority_draw.specs.Words.{SeedWords, words_later}
-use Rattle.priority_draw.specs.Orders.{IsOrderOf, declared_order}
+use Rattle.rank_now.specs.Order.{IsOrderOf}
+use Rattle.priority_draw.specs.Orders.{declared_order}
 use Rattle.priority_draw.specs.Drawing.{drawn_order, drawn_places}
 use Rattle.priority_draw.proofs.laws.Orders.{only-places, order-of-is}
 use Rattle.priority_draw.proofs.laws.Draws.{drawn-are}

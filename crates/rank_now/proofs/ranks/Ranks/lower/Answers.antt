@@ -6,7 +6,7 @@ use Rattle.rank_now.specs.Ranking.{Ranking, AreLowered, AreAbove, AreAboveButOne
 use Rattle.rank_now.proofs.Holders.{values-positive, distinct-values, lowered-by}
 use Rattle.rank_now.proofs.Holders.{freed-length}
 use Rattle.rank_now.proofs.Words.{changed-one}
-use Rattle.rank_now.proofs.laws.GivenOnce.{ranks-step, ranks_by_events-step}
+use Rattle.rank_now.proofs.laws.GivenOnce.{ranks-step, ranks_by_moments-step}
 use Rattle.rank_now.proofs.ranks.Ranks.lower.Goals as goal
 
 pub free-requires : goal.free-requires
@@ -95,9 +95,9 @@ returns-clause-by_points c = λ order points schedule same is.
     ranks-step order points schedule c.args.thread c.self.inside.values.items c.args.value
     (omega (arith, c.requires.positive)) is (seen ∙ same)
 
-pub returns-clause-by_events : goal.returns-clause-by_events
-returns-clause-by_events c = λ order events schedule same is.
+pub returns-clause-by_moments : goal.returns-clause-by_moments
+returns-clause-by_moments c = λ order moments schedule same is.
     let seen : c.self.inside.values.items ≡ c.args.self.now.values =
     ap (λ (r : Ranking). r.values) c.self.view_is in
-    ranks_by_events-step order events schedule c.args.thread c.self.inside.values.items c.args.value
+    ranks_by_moments-step order moments schedule c.args.thread c.self.inside.values.items c.args.value
     (omega (arith, c.requires.positive)) is (seen ∙ same)
