@@ -9,7 +9,7 @@ use crate::error::KitError;
 use policy_pick::Pct;
 use std::alloc::Global;
 
-/// The scheduler of a test with so many threads and so many bodies.
+/// The scheduler of a test with `threads` threads and `bodies` bodies.
 pub fn pct_of(
     alloc: Global,
     threads: u32,

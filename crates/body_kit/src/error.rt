@@ -5,8 +5,8 @@ use thiserror::Error;
 /// Why no test is run.
 #[derive(Debug, Drop, Error)]
 pub enum KitError {
-    /// There are so many bodies, or threads of a kit, and so many names in the order. One of the
-    /// two is not the number of threads.
+    /// The number of bodies, or of a kit's threads, or the number of names in the order is not the
+    /// test's number of threads.
     #[error("{bodies} bodies, and {order} names in the order")]
     WrongCount { bodies: u32, order: u32 },
     /// The thread at this place of the order, from 0, is none of its threads, or was named before.

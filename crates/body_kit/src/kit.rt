@@ -35,8 +35,8 @@ impl Model for Kit {
 }
 
 impl Kit {
-    /// A test of so many threads, by an order of them, the highest first, and change points, that
-    /// stops after `limit` steps. The seat serves all its threads, each of which owes its first
+    /// A test of the deal's threads, by an order of them, the highest first, and change points,
+    /// that stops after `limit` steps. The seat serves all its threads, each of which owes its first
     /// post.
     pub fn open(
         alloc: Global,

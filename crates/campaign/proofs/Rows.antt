@@ -4,11 +4,11 @@ use Rattle.std.proofs.Common.{map, length, refl, sym, ap, subst, ◌∙◌, arit
 use Rattle.std.proofs.lemmas.List.{length-append, map-append}
 use Rattle.std.proofs.lemmas.List.FromFn.{map-range_with_len_more}
 use Rattle.pct_ask.specs.declared.event.Row.{Row}
-use Rattle.campaign.specs.Rows.{Setup, row_of_seed, seed_at, rows_of}
+use Rattle.campaign.specs.Rows.{CampaignSetup, row_of_seed, seed_at, rows_of}
 use Rattle.script_run.specs.Batches.{Decides}
 use Rattle.campaign.specs.Batches.{AreFirstRows, HasRowsBefore}
 
-one-more : (setup : Setup) (first place seed : ℕ) (rows new : List Row) (row : Row)
+one-more : (setup : CampaignSetup) (first place seed : ℕ) (rows new : List Row) (row : Row)
     → seed ≡ seed_at first place → map Some rows ≡ rows_of setup first place
     → new ≡ rows ++ row ∷ [] → row_of_seed setup seed ≡ Some row
     → map Some new ≡ rows_of setup first (place + 1)
@@ -22,7 +22,7 @@ one-more setup first place seed rows new row at before is made =
     (omega arith))
 
 -- the rows of the first seeds, with that of the next one
-pub next-row : (setup : Setup) (first seed : ℕ) (rows new : List Row) (row : Row)
+pub next-row : (setup : CampaignSetup) (first seed : ℕ) (rows new : List Row) (row : Row)
     → seed ≡ seed_at first (length rows) → AreFirstRows setup first rows
     → new ≡ rows ++ row ∷ [] → row_of_seed setup seed ≡ Some row → AreFirstRows setup first new
 next-row setup first seed rows new row at before is made =
@@ -30,13 +30,14 @@ next-row setup first seed rows new row at before is made =
     ∙ ap (rows_of setup first) (sym (ap length is ∙ length-append rows (row ∷ [])))
 
 -- no rows yet
-pub no-rows : (setup : Setup) (first : ℕ) (rows : List Row) → rows ≡ []
+pub no-rows : (setup : CampaignSetup) (first : ℕ) (rows : List Row) → rows ≡ []
     → AreFirstRows setup first rows
 no-rows setup first rows none =
     let A : List Row → Type 0 = AreFirstRows setup first in subst A (sym none) refl
 
 -- a campaign comes to no answer before its last run
-pub goes-on : {A : Type 0} (setup : Setup) (first count : ℕ) (rows : Vec Row Global) (place : ℕ)
+pub goes-on : {A : Type 0} (setup : CampaignSetup) (first count : ℕ) (rows : Vec Row Global)
+    (place : ℕ)
     (found : Option A)
     → Decides (HasRowsBefore setup first count) (λ rows answer. ⊥) rows place found
     → HasRowsBefore setup first count rows place

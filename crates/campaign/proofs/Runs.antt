@@ -15,7 +15,7 @@ use Rattle.worker_run.specs.Played.{IsRun}
 use Rattle.worker_run.specs.declared.played.Played.{Played}
 use Rattle.script_run.specs.Batches.{IsPlanOf}
 use Rattle.script_run.proofs.Laws.{by_points}
-use Rattle.campaign.specs.Rows.{Setup, row_of_run, row_of_seed}
+use Rattle.campaign.specs.Rows.{CampaignSetup, row_of_run, row_of_seed}
 use Rattle.campaign.specs.Batches.{common_of_campaign, setup_of_campaign, IsSeedRun}
 use Rattle.campaign.specs.declared.common.Campaign.{Campaign}
 
@@ -47,7 +47,7 @@ seed-planned campaign seed other made order points ordered pointed same whole is
 one-verdict : (outcome : Outcome) (v w : Verdict) → outcome ≡ Ends v → outcome ≡ Ends w → v ≡ w
 one-verdict outcome v w a b = let same : Ends v ≡ Ends w = sym a ∙ b in cc
 
-pub run-row : (setup : Setup) (seed : ℕ) (played : Played) (row : Row)
+pub run-row : (setup : CampaignSetup) (seed : ℕ) (played : Played) (row : Row)
     → IsSeedRun setup seed played → row.seed ≡ seed → row.steps ≡ length played.events
     → played.outcome ≡ Ends row.verdict → row_of_seed setup seed ≡ Some row
 run-row setup seed played row is at many ends =

@@ -12,7 +12,7 @@ use policy_pick::{Pct, Priorities};
 use priority_draw::Words;
 use script_run::{Batch, ReadyScript};
 use std::alloc::{AllocError as NoMemory, Global};
-use worker_run::{step_count, verdict_of};
+use worker_run::{count_steps, verdict_of};
 
 impl Batch for Campaign<'_> {
     type Policy = Pct;
@@ -65,7 +65,7 @@ impl Batch for Campaign<'_> {
     ) -> Result<Option<()>, NoMemory> {
         rows.push_reserved(Row {
             seed: self.seed_at(place),
-            steps: step_count(events, self.limit),
+            steps: count_steps(events, self.limit),
             verdict: verdict_of(outcome),
         });
         Ok(None)

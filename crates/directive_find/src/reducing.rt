@@ -1,29 +1,20 @@
 //! Moments without those that a verdict doesn't need.
 
-ghost use Rattle.std.specs.Prelude.{◌≡◌, ◌≤◌, ◌<◌, length, remove, IfOk, IfSome};
+ghost use Rattle.std.specs.Prelude.{◌≡◌, ◌<◌, length, IfOk, IfSome};
 ghost use Rattle.script_code.specs.Listing.{listing};
 ghost use Rattle.script_run.specs.Ready.{bodies_of_code};
 ghost use Rattle.directive_find.specs.Reduced.{LeadsTo, Leaves, IsReduced};
 
 use crate::short::Short;
+use choices::without_moment;
 use pct_ask::{Limit, Verdict};
 use pct_outside::Gate;
-use policy_pick::{DirectedPriorities, Moment, MomentList, Priorities};
+use policy_pick::{DirectedPriorities, Priorities};
 use script_run::ReadyScript;
 use std::alloc::{AllocError as NoMemory, Global};
 use std::sync::Wait;
 use std::thread::Threads;
-use worker_run::{Serve, step_count};
-
-/// The moments but the one at a place.
-fn without(alloc: Global, moments: &[Moment], place: usize) -> Result<MomentList, NoMemory>
-    requires { place < length moments.now }
-    ensures { IfOk result (λ rest. rest ≡ remove moments.now place) }
-{
-    let mut rest = Vec::from_slice(alloc, moments)?;
-    rest.remove(place);
-    Ok(MomentList::from_vec(rest))
-}
+use worker_run::{Serve, count_steps};
 
 /// Leaves out the first moment without which the directed run still has the verdict. `None` where
 /// each is needed.
@@ -45,14 +36,14 @@ fn leave_out<R: Threads + Wait + Sync, G: Gate>(
 {
     let DirectedPriorities { order, moments, .. } = *priorities;
     for place in 0..moments.len() {
-        let rest = without(alloc, moments, place)?;
+        let rest = without_moment(alloc, moments, place)?;
         let left = DirectedPriorities {
             order,
             moments: rest.as_slice(),
         };
         let whole = ready.run_by_moments(rt, alloc, &left, limit, Serve::Threads, gate)?;
         if whole.verdict.is(verdict) {
-            let steps = step_count(whole.events.as_slice(), limit);
+            let steps = count_steps(whole.events.as_slice(), limit);
             return Ok(Some(Short {
                 moments: rest,
                 steps,

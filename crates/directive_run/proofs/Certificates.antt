@@ -18,7 +18,8 @@ use Rattle.choices.specs.Orders.{factorial, low_orders}
 use Rattle.choices.specs.PointLists.{IsWithin, pointlists}
 use Rattle.choices.specs.Counting.{hits_under}
 use Rattle.directive_run.specs.Guarantees.{IsLed}
-use Rattle.directive_run.specs.Certifying.{IsPointed, AreRows, IsCertified, IsFirstOther, IsRefuted}
+use Rattle.directive_run.specs.Certifying.{IsPointed, AreOrderRows, IsCertified, IsFirstOther}
+use Rattle.directive_run.specs.Certifying.{IsRefuted}
 use Rattle.directive_run.specs.Certifying.{IsTooLongUnder}
 use Rattle.directive_run.specs.Tested.{DirectedSetup, IsOther, Tells}
 use Rattle.directive_run.specs.declared.judging.Tested.{Tested}
@@ -94,7 +95,7 @@ take-whole (x ∷ xs) (suc k) long = ap (λ z. x ∷ z) (take-whole xs k (omega 
 
 module _ (deal : Deal) (bodies : List Pending) (directive : Directive) (steps limit : ℕ) where
   abbrev Rows : List (List ℕ) → List CertifyRow → Type 0
-  Rows orders rows = AreRows deal bodies directive steps limit orders rows
+  Rows orders rows = AreOrderRows deal bodies directive steps limit orders rows
 
   abbrev Pointed : List ℕ → List ℕ → Type 0
   Pointed order points =

@@ -31,15 +31,15 @@ pub record IsPointed (deal : Deal) (bodies : List Pending) (order : List ℕ) (m
   pub is_run : run deal bodies order points limit ≡ Some (made, verdict)
 
 -- one row for each of the orders, in their order
-abbrev pub AreRows : Deal → List Pending → Directive → ℕ → ℕ → List (List ℕ) → List CertifyRow
+abbrev pub AreOrderRows : Deal → List Pending → Directive → ℕ → ℕ → List (List ℕ) → List CertifyRow
     → Type 0
-AreRows deal bodies directive steps limit [] [] = Unit {0}
-AreRows deal bodies directive steps limit [] (row ∷ rows) = ⊥
-AreRows deal bodies directive steps limit (order ∷ orders) [] = ⊥
-AreRows deal bodies directive steps limit (order ∷ orders) (row ∷ rows) =
+AreOrderRows deal bodies directive steps limit [] [] = Unit {0}
+AreOrderRows deal bodies directive steps limit [] (row ∷ rows) = ⊥
+AreOrderRows deal bodies directive steps limit (order ∷ orders) [] = ⊥
+AreOrderRows deal bodies directive steps limit (order ∷ orders) (row ∷ rows) =
     (row.order ≡ order)
     × IsPointed deal bodies order directive.events directive.verdict steps limit row.points
-    × AreRows deal bodies directive steps limit orders rows
+    × AreOrderRows deal bodies directive steps limit orders rows
 
 -- The directive guarantees its verdict; there is one row for each order that places its thread
 -- last; and the count: of the n! k^m choices of an order and m points in 1..k, for n threads, k
@@ -50,7 +50,7 @@ pub record IsCertified (deal : Deal) (bodies : List Pending) (directive : Direct
   pub guarantees : Guarantees deal bodies directive.low directive.events directive.verdict steps
       limit
   pub bound_is : bound ≡ deal.threads * steps ^ length directive.events
-  pub rows_are : AreRows deal bodies directive steps limit
+  pub rows_are : AreOrderRows deal bodies directive steps limit
       (low_orders deal.threads directive.low) rows
   pub counted : factorial deal.threads * steps ^ length directive.events
       ≤ hits (λ order points. run deal bodies order points limit) deal.threads steps

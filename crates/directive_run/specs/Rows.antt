@@ -7,7 +7,7 @@ use Rattle.pct_ask.specs.declared.verdict.Verdict.TheVariants.{Failed}
 use Rattle.rank_now.specs.Rank.{rank_by}
 use Rattle.worker_run.specs.Run.{run}
 use Rattle.worker_run.specs.Samples.{sample_threads}
-use Rattle.choices.specs.Counting.{Leads, hits}
+use Rattle.choices.specs.Counting.{LedRuns, hits}
 
 -- what the two adders and the thread that checks share: a variable
 abbrev pub adders_deal : Deal
@@ -32,7 +32,7 @@ adders_deal = record {
 }
 
 -- their runs of at most 9 steps
-abbrev pub adders_runs : Leads
+abbrev pub adders_runs : LedRuns
 adders_runs order points = run adders_deal sample_threads order points 9
 
 -- A point after the first step loses an update under each of the six orders, and one after the

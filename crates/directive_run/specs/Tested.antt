@@ -16,7 +16,7 @@ use Rattle.script_run.specs.Batches.{Common}
 use Rattle.directive.specs.declared.directive.Directive.{Directive}
 use Rattle.directive_run.specs.Exposing.{RunsTooLong}
 use Rattle.choices.specs.Orders.{low_orders}
-use Rattle.directive_run.specs.Certifying.{IsPointed, AreRows}
+use Rattle.directive_run.specs.Certifying.{IsPointed, AreOrderRows}
 use Rattle.directive_run.specs.declared.answers.CertifyRow.{CertifyRow}
 use Rattle.directive_run.specs.declared.claim.Claim.{Claim}
 use Rattle.directive_run.specs.declared.judging.Tested.{Tested}
@@ -98,7 +98,7 @@ IsRunAt setup place played =
 -- the rows are those of the first orders
 abbrev pub AreFirstCertifyRows : DirectedSetup → List CertifyRow → Type 0
 AreFirstCertifyRows setup rows =
-    AreRows setup.deal setup.bodies setup.directive setup.steps setup.limit
+    AreOrderRows setup.deal setup.bodies setup.directive setup.steps setup.limit
     (take (length rows) (low_orders setup.deal.threads setup.directive.low)) rows
 
 -- there is a row for each order before the place

@@ -1,6 +1,6 @@
 // The run of each order that places a directive's thread last, and its row, or the answer.
 ghost use Rattle.std.specs.Prelude.{◌-◌, ◌<◌, [], IfOk};
-ghost use Rattle.policy_pick.specs.Kept.{events_plan, EventsStand};
+ghost use Rattle.policy_pick.specs.Kept.{moments_plan, MomentsStand};
 ghost use Rattle.script_run.specs.Batches.{IsPlanOf};
 ghost use Rattle.choices.specs.Orders.{factorial};
 ghost use Rattle.directive_run.specs.Certifying.{Certifies};
@@ -49,9 +49,9 @@ impl Batch for Claim<'_, '_> {
         spare: Option<DirectedPolicy>,
     ) -> Result<DirectedPolicy, NoMemory>
         requires place { place < factorial (self.now.script.deal.now.threads - 1) }
-        ensures stands { IfOk result (λ policy. EventsStand policy []) }
+        ensures stands { IfOk result (λ policy. MomentsStand policy []) }
         ensures plan { IfOk result (λ policy. IsPlanOf (common_of_claim self.now)
-            (IsRunAt (directed_setup self.now) place) (events_plan policy)) }
+            (IsRunAt (directed_setup self.now) place) (moments_plan policy)) }
     {
         let order = low_order_at(alloc, self.script.deal.threads, self.directive.low, place)?;
         let (order, moments) = (order.as_slice(), self.directive.events.as_slice());

@@ -6,7 +6,7 @@ use crate::claim::Claim;
 use choices::points_of;
 use pct_ask::{Event, Outcome, PointList, Verdict};
 use std::alloc::{AllocError as NoMemory, Global};
-use worker_run::{step_count, verdict_of};
+use worker_run::{count_steps, verdict_of};
 
 /// What one order leads to.
 #[derive(Drop)]
@@ -33,7 +33,7 @@ pub fn test_run(
         → IfOk result (Tells (directed_setup claim.now) order) }
 {
     let verdict = verdict_of(outcome);
-    let many = step_count(events, claim.limit);
+    let many = count_steps(events, claim.limit);
     let most = claim.steps.steps();
     if many > most {
         return Ok(Tested::TooLong(many));

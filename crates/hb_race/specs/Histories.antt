@@ -10,8 +10,8 @@ use Rattle.hb_race.specs.Lasts.{IsHistory, new_history, no_history}
 use Rattle.pct_ask.specs.declared.limits.TheConstants.{MAX_THREADS}
 
 -- so many variables have no accesses yet
-abbrev pub AreNew : ℕ → List History → Type 0
-AreNew vars histories =
+abbrev pub AreNewHistories : ℕ → List History → Type 0
+AreNewHistories vars histories =
     (x : ℕ) → x < vars → slice_index_or histories x no_history ≡ new_history
 
 -- each variable's history is that of its accesses by the first n steps

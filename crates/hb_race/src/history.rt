@@ -44,7 +44,8 @@ fn later(a: Option<u32>, b: Option<u32>) -> Option<u32>
     }
 }
 
-/// The step of a last access, where only so many of its thread's steps are known to come before.
+/// The step of a last access, where it isn't among the first `known` steps of its thread, which are
+/// known to come before.
 fn untold_step(last: Option<LastAccess>, known: u32) -> Option<u32>
     ensures { result ≡ untold_step last known }
 {

@@ -7,7 +7,7 @@ ghost use Rattle.pct_ask.specs.Objects.{sizes_of_deal, EventIsInRange};
 ghost use Rattle.hb_race.specs.Ranges.{most_with};
 ghost use Rattle.hb_race.specs.Races.{AreRaces};
 ghost use Rattle.hb_race.specs.Table.{clock_entry};
-ghost use Rattle.hb_race.specs.Histories.{AreHistories, AreNew, IsNoted};
+ghost use Rattle.hb_race.specs.Histories.{AreHistories, AreNewHistories, IsNoted};
 ghost use Rattle.pct_ask.specs.declared.limits.TheConstants.{MAX_OBJECTS, MAX_STEPS};
 
 use crate::access::{Access, access_of};
@@ -52,10 +52,10 @@ fn new_table(alloc: Global) -> Result<Vec<Clock>, NoMemory>
     Ok(table)
 }
 
-/// The histories of so many variables before the first step.
+/// The histories of `vars` variables before the first step.
 fn new_histories(alloc: Global, vars: usize) -> Result<Vec<History>, NoMemory>
     ensures rows { IfOk result (λ histories. length histories.items ≡ vars) }
-    ensures fresh { IfOk result (λ histories. AreNew vars histories.items) }
+    ensures fresh { IfOk result (λ histories. AreNewHistories vars histories.items) }
 {
     let mut histories = Vec::with_capacity(alloc, vars)?;
     for _var in 0..vars {
@@ -69,7 +69,7 @@ fn follow(table: &mut [Clock], histories: &mut [History], events: &[Event])
     requires rows { length table.old ≡ 512 }
     requires empty { (row u : ℕ) → clock_entry table.old row u ≡ 0 }
     requires few_vars { length histories.old ≤ MAX_OBJECTS }
-    requires fresh { AreNew (length histories.old) histories.old }
+    requires fresh { AreNewHistories (length histories.old) histories.old }
     requires few { length events.now ≤ MAX_STEPS }
     requires in_range { All (EventIsInRange (most_with (length histories.old))) events.now }
     ensures { AreHistories events.now (length events.now) histories.new }

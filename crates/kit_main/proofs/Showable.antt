@@ -20,7 +20,7 @@ use Rattle.rank_now.proofs.laws.WholeOrders.{whole-order}
 use Rattle.trace_text.specs.Lawful.{HasObjects, IsHead}
 use Rattle.trace_text.proofs.laws.KnownVerdicts.{IsAsked}
 use Rattle.kit_main.specs.Showing.{IsTestDeal, test_sizes, test_names, test_order, test_head}
-use Rattle.kit_main.specs.Showing.{IsShowable}
+use Rattle.kit_main.specs.Showing.{IsShowableBody}
 
 pub sizes-are : (deal : Deal) → IsTestDeal deal → sizes_of_deal deal ≡ test_sizes
 sizes-are deal is = λ i. record {
@@ -46,7 +46,7 @@ pub mapped-three : {X : Type 0} (pending : X → Pending) (items : List X) → l
     → length (map pending items) ≡ 3
 mapped-three pending items three = length-map items pending ∙ three
 
-module _ (bodies : List Pending) (three : length bodies ≡ 3) (all : All IsShowable bodies) where
+module _ (bodies : List Pending) (three : length bodies ≡ 3) (all : All IsShowableBody bodies) where
   in-range : (t : ℕ) (answers : List ℤ) → PostIsInRange test_sizes (pending_of bodies t answers).ask
   in-range t answers = elim (cases_lt t (length bodies)) [
     | inl below ↦ (all t no_body below).in_range answers
@@ -133,17 +133,20 @@ head-is = record {
 }
 
 -- ---- bodies in boxes
-three-all : (one other last : Pending) → IsShowable one → IsShowable other → IsShowable last
-    → All IsShowable (one ∷ other ∷ last ∷ [])
+three-all : (one other last : Pending) → IsShowableBody one → IsShowableBody other
+    → IsShowableBody last
+    → All IsShowableBody (one ∷ other ∷ last ∷ [])
 three-all one other last a b c =
-    All-cons IsShowable one (other ∷ last ∷ []) a
-    (All-cons IsShowable other (last ∷ []) b (All-cons IsShowable last [] c (All-nil IsShowable)))
+    All-cons IsShowableBody one (other ∷ last ∷ []) a
+    (All-cons IsShowableBody other (last ∷ []) b
+    (All-cons IsShowableBody last [] c (All-nil IsShowableBody)))
 
 pub boxed-showable : {X : Type 0} (pending : X → Pending) (items : List X) (one other last : X)
-    → items ≡ one ∷ other ∷ last ∷ [] → IsShowable (pending one) → IsShowable (pending other)
-    → IsShowable (pending last) → All IsShowable (map pending items)
+    → items ≡ one ∷ other ∷ last ∷ [] → IsShowableBody (pending one)
+    → IsShowableBody (pending other)
+    → IsShowableBody (pending last) → All IsShowableBody (map pending items)
 boxed-showable pending items one other last is a b c =
-    subst (All IsShowable) (sym (ap (map pending) is))
+    subst (All IsShowableBody) (sym (ap (map pending) is))
     (three-all (pending one) (pending other) (pending last) a b c)
 
 post-line : (t steps : ℕ) (seen : ℤ) → IsLine (sample_post t steps seen).line
@@ -164,7 +167,7 @@ sample-line : (t steps : ℕ) (seen : ℤ) (answers : List ℤ)
 sample-line t steps seen [] = post-line t steps seen
 sample-line t steps seen (answer ∷ answers) = sample-line t (steps + 1) answer answers
 
-pub sample-showable : (t : ℕ) → IsShowable (sample_pending t 0 (pos 0))
+pub sample-showable : (t : ℕ) → IsShowableBody (sample_pending t 0 (pos 0))
 sample-showable t = record {
   in_range =
       samples-within test_sizes (omega arith) (omega arith) (λ (t : ℕ). t) (λ (t : ℕ). 0)

@@ -60,7 +60,7 @@ abbrev pub test_head : TraceHead
 test_head = record { version = 1; order = test_order; points = test_points; limit = 10000 }
 
 -- whatever it is answered, a body names only what there is, and its lines are a test's
-pub record IsShowable (pending : Pending) : Type 0 where
+pub record IsShowableBody (pending : Pending) : Type 0 where
   pub in_range : IsInRangeBody test_sizes pending
   pub lines : (answers : List ℤ) → IsLine (pending answers).line
 

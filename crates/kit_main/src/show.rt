@@ -1,7 +1,7 @@
 ghost use Rattle.std.specs.Prelude.{◌≡◌, ◌≤◌, All, length, map, IfOk};
 ghost use Rattle.pct_outside.specs.Counter.{Rose};
 ghost use Rattle.trace_text.specs.Lawful.{IsKnownRun};
-ghost use Rattle.kit_main.specs.Showing.{test_names, IsShowable, IsRunOfBodies, Shows};
+ghost use Rattle.kit_main.specs.Showing.{test_names, IsShowableBody, IsRunOfBodies, Shows};
 ghost use Rattle.kit_main.specs.Told.{IsRunTrace, status_by};
 ghost use Rattle.pct_ask.specs.declared.limits.TheConstants.{MAX_STEPS};
 
@@ -22,7 +22,7 @@ struct Traced {
     verdict: Verdict,
 }
 
-/// The run of the bodies, by the order and the point of the test, of at most so many steps.
+/// The run of the bodies, by the order and the point of the test, of at most `limit` steps.
 fn run_test<R: Threads + Wait + Sync, G: Gate>(
     rt: &R,
     alloc: Global,
@@ -33,7 +33,7 @@ fn run_test<R: Threads + Wait + Sync, G: Gate>(
     requires some_steps { 1 ≤ limit }
     requires few_steps { limit ≤ MAX_STEPS }
     requires three { length bodies.items ≡ 3 }
-    requires bodies { All IsShowable (map pending bodies.items) }
+    requires bodies { All IsShowableBody (map pending bodies.items) }
     ensures run { IfOk result (λ r.
         IsRunOfBodies (map pending bodies.items) limit (r.events, r.verdict)) }
     ensures known { IfOk result (λ r. IsKnownRun test_names 1 limit r.events r.verdict) }
@@ -55,7 +55,7 @@ fn trace_of<R: Threads + Wait + Sync, G: Gate>(
     gate: &G,
 ) -> Result<Traced, NoMemory>
     requires three { length bodies.items ≡ 3 }
-    requires bodies { All IsShowable (map pending bodies.items) }
+    requires bodies { All IsShowableBody (map pending bodies.items) }
     ensures { IfOk result (λ t. IsRunTrace (map pending bodies.items) t.text.items t.verdict) }
 {
     let run = run_test(rt, alloc, LIMIT, bodies, gate)?;
@@ -91,7 +91,7 @@ pub fn show<R: Threads + Wait + Sync, O: Sink, G: Gate>(
     gate: &G,
 ) -> Shown
     requires three { length bodies.items ≡ 3 }
-    requires bodies { All IsShowable (map pending bodies.items) }
+    requires bodies { All IsShowableBody (map pending bodies.items) }
     ensures shows { Shows (map pending bodies.items) (O.written out.old) (O.written out.new)
         result }
     ensures write_fault { result ≡ Shown.WriteFault → Rose (O.faults out.old) (O.faults out.new) }

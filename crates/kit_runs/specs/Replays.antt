@@ -1,25 +1,17 @@
 -- The replay of a trace (this project).
-use Rattle.std.specs.Prelude.{◌≡◌, ◌≢◌, ◌+◌, ◌⊎◌, ◌≤◌, ℕ, List, length, take, slice_get, Some}
+use Rattle.std.specs.Prelude.{◌≡◌, ◌≢◌, ◌+◌, ◌⊎◌, ℕ, length, take, slice_get}
 use Rattle.pct_ask.specs.declared.deal.Deal.{Deal}
-use Rattle.pct_ask.specs.declared.event.Event.{Event}
 use Rattle.trace_text.specs.declared.file.TraceFile.{TraceFile}
 use Rattle.kit_runs.specs.declared.replaying.Confirmation.{Confirmation}
 use Rattle.kit_runs.specs.declared.replaying.Confirmation.TheVariants.{Confirmed, Departs}
 use Rattle.kit_runs.specs.Runs.{IsFileOf}
 
--- the first steps of both are the same, and the next ones, where both have one, are not
-pub record IsAgreed (made told : List Event) (many : ℕ) : Type 0 where
-  pub front : take many made ≡ take many told
-  pub made_within : many ≤ length made
-  pub told_within : many ≤ length told
-  pub apart : (e f : Event) → slice_get made many ≡ Some e → slice_get told many ≡ Some f → e ≢ f
-
 -- what is told of a run and a trace: they are the same, or they have the same steps up to this one,
 -- from 1, at which they differ
-abbrev pub Tells : TraceFile → TraceFile → Confirmation → Type 0
-Tells made file (Confirmed verdict) =
+abbrev pub TellsReplay : TraceFile → TraceFile → Confirmation → Type 0
+TellsReplay made file (Confirmed verdict) =
     (made.events ≡ file.events) × (made.verdict ≡ file.verdict) × (verdict ≡ file.verdict)
-Tells made file (Departs step) =
+TellsReplay made file (Departs step) =
     (many : ℕ) × (step ≡ many + 1) × (take many made.events ≡ take many file.events)
     × ((slice_get made.events many ≢ slice_get file.events many)
     ⊎ ((made.events ≡ file.events) × (many ≡ length file.events)
@@ -29,4 +21,4 @@ Tells made file (Departs step) =
 pub record IsReplay (deal : Deal) (file : TraceFile) (confirmation : Confirmation) : Type 0 where
   pub made : TraceFile
   pub run : IsFileOf deal file.header.order file.header.points file.header.limit made
-  pub tells : Tells made file confirmation
+  pub tells : TellsReplay made file confirmation

@@ -5,6 +5,6 @@ use Rattle.turn_lock.specs.Rule.{Serves}
 use Rattle.turn_lock.specs.declared.view.View.{View}
 
 -- the seat serves the thread, which has not posted yet
-pub record IsReady (v : View) (t : ℕ) : Type 0 where
+pub record HasYetToPost (v : View) (t : ℕ) : Type 0 where
   pub serves : Serves v t
   pub owes : owes_of v.seen t ≡ true

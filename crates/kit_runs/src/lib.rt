@@ -14,7 +14,8 @@
 //!   `count`, `depth`, `steps`, `limit`; `Seeds::at`, its clause (`seed_at`).
 //! - A replay runs the trace's order, points and limit again, and confirms its steps and its
 //!   verdict, or tells the first step that differs: `replay`: `replay`, `refused` (`IsReplay`,
-//!   `Tells`). A deal has the objects that are named: `small_deal`, its clause (`IsSmallDeal`).
+//!   `TellsReplay`). A deal has the objects that are named: `small_deal`, its clause
+//!   (`IsSmallDeal`).
 #![tactic(auto)]
 
 mod bodies;

@@ -1,17 +1,17 @@
 // The replay of a trace.
 ghost use Rattle.std.specs.Prelude.{◌≡◌, ◌<◌, ◌≤◌, ◌^◌, length, Err, IfOk};
 ghost use Rattle.kit_runs.specs.Errors.{IsWholeOrder};
-ghost use Rattle.kit_runs.specs.Replays.{IsReplay, IsAgreed, Tells};
+ghost use Rattle.kit_runs.specs.Replays.{IsReplay, TellsReplay};
 ghost use Rattle.pct_ask.specs.declared.limits.TheConstants.{MAX_POINTS, MAX_STEPS};
 
 use crate::error::RunError;
 use crate::program::Program;
 use crate::running::run_program;
-use pct_ask::{Deal, Event, Verdict};
+use pct_ask::{Deal, Verdict};
 use std::alloc::Global;
 use std::sync::Wait;
 use std::thread::Threads;
-use trace_text::TraceFile;
+use trace_text::{TraceFile, agreed};
 
 /// What a replay tells of a trace.
 #[derive(Clone, Copy, Debug, PartialEq, Eq)]
@@ -23,21 +23,10 @@ pub enum Confirmation {
     Departs { step: u32 },
 }
 
-/// In how many steps two lists agree.
-fn agreed(made: &[Event], told: &[Event]) -> usize
-    ensures { IsAgreed made.now told.now result }
-{
-    let mut many = 0;
-    while many < made.len() && many < told.len() && made[many].is(&told[many]) {
-        many += 1;
-    }
-    many
-}
-
 /// Compares a run with a trace.
 fn compare(run: &TraceFile, file: &TraceFile) -> Confirmation
     requires few { length run.now.events ≤ MAX_STEPS }
-    ensures { Tells run.now file.now result }
+    ensures { TellsReplay run.now file.now result }
 {
     let many = agreed(run.events.as_slice(), file.events.as_slice());
     let is_whole = many == run.events.len() && many == file.events.len();

@@ -8,7 +8,7 @@ ghost use Rattle.turn_lock.specs.Views.{view, HasSeat};
 ghost use Rattle.trace_text.specs.Trace.{head_of};
 ghost use Rattle.kit_runs.specs.Errors.{IsWholeOrder};
 ghost use Rattle.kit_runs.specs.Runs.{IsFileOf, IsRunOfBook, head_with, version_of};
-ghost use Rattle.kit_runs.specs.Seats.{IsReady};
+ghost use Rattle.kit_runs.specs.Seats.{HasYetToPost};
 ghost use Rattle.pct_ask.specs.declared.limits.TheConstants.{MAX_POINTS, MAX_STEPS};
 
 use crate::error::RunError;
@@ -36,7 +36,7 @@ fn run_thread<R: Wait, T: Program>(
     thread: u32,
 ) -> Seat<Pct>
     requires of { HasSeat kit.now seat }
-    requires ready { IsReady (view seat) thread }
+    requires ready { HasYetToPost (view seat) thread }
     requires fits { T.fits program.now (view seat).seen.deal }
     ensures of { HasSeat kit.now result }
     ensures serves { Serves (view result) thread }
@@ -58,7 +58,7 @@ fn run_first<R: Threads + Wait + Sync, T: Program + Sync>(
 ) -> Seat<Pct>
     requires some { 1 ≤ count }
     requires of { HasSeat kit.now seat }
-    requires ready { (t : ℕ) → t < count → IsReady (view seat) t }
+    requires ready { (t : ℕ) → t < count → HasYetToPost (view seat) t }
     requires fits { T.fits program.now (view seat).seen.deal }
     ensures of { HasSeat kit.now result }
     ensures serves { (t : ℕ) → t < count → Serves (view result) t }
@@ -72,12 +72,12 @@ fn run_first<R: Threads + Wait + Sync, T: Program + Sync>(
         rt,
         move || -> Seat<Pct>
             requires { IsSync R.row × IsSync T.row × (1 ≤ last) × HasSeat kit.now seat
-                × ((t : ℕ) → t < last → IsReady (view seat) t)
+                × ((t : ℕ) → t < last → HasYetToPost (view seat) t)
                 × T.fits program.now (view seat).seen.deal }
             ensures { HasSeat kit.entry.now result × ((t : ℕ) → t < last → Serves (view result) t) }
         { run_first(rt, kit, program, seat, last) },
         move || -> Seat<Pct>
-            requires { HasSeat kit.now own × IsReady (view own) last
+            requires { HasSeat kit.now own × HasYetToPost (view own) last
                 × T.fits program.now (view own).seen.deal }
             ensures { HasSeat kit.entry.now result × Serves (view result) last }
         { run_thread(rt, kit, program, own, last) },
@@ -145,7 +145,7 @@ fn play<R: Threads + Wait + Sync, T: Program + Sync>(
     requires of { HasSeat kit seat }
     requires some { 1 ≤ threads }
     requires threads { (first_book kit).deal.threads ≡ threads }
-    requires ready { (t : ℕ) → t < threads → IsReady (view seat) t }
+    requires ready { (t : ℕ) → t < threads → HasYetToPost (view seat) t }
     requires fits { T.fits program.now (view seat).seen.deal }
     ensures { IfSome result (λ whole.
         IsRunOfBook (first_book kit) whole.events whole.verdict) }
@@ -165,7 +165,7 @@ fn run_kit<R: Threads + Wait + Sync, T: Program + Sync>(
     requires of { HasSeat opened.0 opened.1 }
     requires some { 1 ≤ threads }
     requires threads { (first_book opened.0).deal.threads ≡ threads }
-    requires ready { (t : ℕ) → t < threads → IsReady (view opened.1) t }
+    requires ready { (t : ℕ) → t < threads → HasYetToPost (view opened.1) t }
     requires fits { T.fits program.now (view opened.1).seen.deal }
     ensures run { IfOk result (λ file.
         IsRunOfBook (first_book opened.0) file.events file.verdict × (file.header ≡ header)) }

@@ -113,7 +113,7 @@ fn thread_text(stmts: Vec<Stmt>) -> ThreadText
     }
 }
 
-/// A thread of so many pieces.
+/// A thread of `many` pieces.
 fn worker(alloc: Global, thread: u32, many: u32) -> Result<ThreadText, NoMemory>
     requires thread { thread < 8 }
     requires many { many ≤ 100 }
@@ -224,7 +224,7 @@ fn names(alloc: Global) -> Result<Names, NoMemory>
     Ok(names)
 }
 
-/// The large script, whose threads have so many pieces, 1 to 100.
+/// The large script, whose threads have `many` pieces each, at most 100.
 pub fn large_script(alloc: Global, many: u32) -> Result<Script, NoMemory>
     requires { many ≤ 100 }
     ensures { IfOk result (λ script. plain_script script ≡ large_script many) }

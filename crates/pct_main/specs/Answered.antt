@@ -16,5 +16,5 @@ AnswersBy (Some text) words found left status =
 AnswersBy None words found left status = IsCall words found left status
 
 -- what a call of the program does with its words
-abbrev pub IsAnswered : List (List ℕ) → Outside → Outside → Status → Type 0
-IsAnswered words found left status = AnswersBy (answer_to words) words found left status
+abbrev pub IsCallDone : List (List ℕ) → Outside → Outside → Status → Type 0
+IsCallDone words found left status = AnswersBy (answer_to words) words found left status

@@ -13,7 +13,7 @@ ghost use Rattle.pct_outside.specs.Reading.{texts_of};
 ghost use Rattle.pct_top.specs.Refusing.{status_of_refusal, refusal_line};
 ghost use Rattle.pct_top.specs.Saying.{SaysLine};
 ghost use Rattle.pct_main.specs.Own.{IsPut};
-ghost use Rattle.pct_main.specs.Answered.{IsAnswered};
+ghost use Rattle.pct_main.specs.Answered.{IsCallDone};
 
 mod explanations;
 mod own;
@@ -112,7 +112,7 @@ fn answer_words<R: AllocGlobal + Threads + Wait + Sync, H: Shelf, O: Sink, E: Si
     out: &mut O,
     err: &mut E,
 ) -> Status
-    ensures { IsAnswered (texts_of words.now)
+    ensures { IsCallDone (texts_of words.now)
         (record {
           shelf = record { files = H.files shelf.old; failed = H.failed shelf.old };
           output = record {

@@ -2,7 +2,7 @@
 
 /// What happens at a meeting. Contracts alone speak of happenings: the code makes none.
 pub enum Happening {
-    /// It is opened, for guests who look so many times.
+    /// It is opened, for guests who look this number of times.
     Opened(u64),
     /// A guest comes: 0 is the one, and 1 the other.
     Came(u64),

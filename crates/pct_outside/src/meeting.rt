@@ -141,7 +141,7 @@ fn sighting(theirs: &Place, opened: &Known) -> Option<Known>
     if found >= SAW { Some(seen) } else { None }
 }
 
-// A guest comes, and looks for the other so many times.
+// A guest comes, and looks for the other as often as guests of this meeting do.
 fn meet(mine: &Place, theirs: &Place, opened: &Known, looks: u64)
     requires mine { IsGuestWord mine.now opened.now.book }
     requires theirs { IsGuestWord theirs.now opened.now.book }
@@ -179,7 +179,7 @@ impl Debug for Meeting {
 }
 
 impl Meeting {
-    /// For guests that look so many times.
+    /// For guests that look `looks` times.
     pub fn new(looks: u64) -> Meeting
         ensures { result.looks ≡ looks }
     {

@@ -61,7 +61,7 @@ impl FileMap {
     }
 }
 
-/// The first bytes, at most so many.
+/// The first bytes, at most `most`.
 fn first_bytes(alloc: Global, bytes: &[u8], most: u64) -> Result<Vec<u8>, NoMemory>
     ensures { IfOk result (λ first. FirstBytes most bytes.now first.items) }
 {

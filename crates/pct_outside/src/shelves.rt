@@ -56,7 +56,7 @@ pub trait Shelf {
     /// The names of the reads that have failed, in the order of the calls.
     ghost failed: { Self → List (List ℕ) };
 
-    /// Reads the first bytes of a file, at most so many.
+    /// Reads the first bytes of a file, at most `most`.
     fn read_up_to(&mut self, name: &str, most: u64) -> Result<Vec<u8>, ShelfError>
         ensures most { IfOk result (λ bytes. vec_len bytes ≤ most) }
         ensures first { IfOk result (λ bytes. FirstOf (files self.old) name.now most bytes.items) }

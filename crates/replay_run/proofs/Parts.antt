@@ -5,7 +5,7 @@ use Rattle.std.specs.Prelude.{slice_get}
 use Rattle.std.proofs.lemmas.List.{length-take-le, take_all}
 use Rattle.pct_ask.specs.declared.event.Event.{Event}
 use Rattle.replay_run.specs.Replay.{DifferAt, EndsBefore}
-use Rattle.replay_run.specs.Agreed.{IsAgreed}
+use Rattle.trace_text.specs.Agreed.{IsAgreed}
 
 cut_is : (xs : List Event) (k : ℕ) (x : Event) → slice_get xs k ≡ Some x
     → xs ≡ take k xs ++ x ∷ drop (suc k) xs

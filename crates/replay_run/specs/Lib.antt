@@ -1,3 +1,2 @@
 pub mod Replay
-pub mod Agreed
 pub mod Laws

@@ -2,24 +2,12 @@ ghost use Rattle.std.specs.Prelude.{◌≡◌, ◌≤◌, ◌+◌, List, length}
 ghost use Rattle.pct_ask.specs.declared.event.Event.{Event};
 ghost use Rattle.pct_ask.specs.declared.verdict.Verdict.{Verdict};
 ghost use Rattle.replay_run.specs.Replay.{TellsReply, EndsBefore};
-ghost use Rattle.replay_run.specs.Agreed.{IsAgreed};
 ghost use Rattle.pct_ask.specs.declared.limits.TheConstants.{MAX_STEPS};
 
 use crate::answer::{Found, Replayed, Written};
 use pct_ask::{Event, Outcome, Verdict};
-use trace_text::TraceFile;
+use trace_text::{TraceFile, agreed};
 use worker_run::Played;
-
-/// In how many steps two lists agree.
-fn agreed(made: &[Event], told: &[Event]) -> usize
-    ensures { IsAgreed made.now told.now result }
-{
-    let mut many = 0;
-    while many < made.len() && many < told.len() && made[many].is(&told[many]) {
-        many += 1;
-    }
-    many
-}
 
 /// What is told where the run ended, or left its list, before a step of the trace.
 fn stopped(step: u32, outcome: Outcome, written: Event) -> Replayed

@@ -15,7 +15,7 @@ use std::{env, io};
 /// One byte more than a script may have.
 const READ_BYTES: u64 = SCRIPT_BYTES as u64 + 1;
 
-/// How many steps so many runs of the file's script have in all. Nothing where one can't be made.
+/// How many steps `times` runs of the file's script have in all. `None` where one can't be made.
 fn counted<R: AllocGlobal + Threads + Wait + Sync, H: Shelf>(
     rt: &R,
     shelf: &mut H,

@@ -63,7 +63,7 @@ fn run_once<R: Threads + Wait + Sync>(
     Ok(played.events.len())
 }
 
-/// How many steps so many runs have in all. The first is by the order of seed 1, and so on.
+/// How many steps `times` runs have in all. The first is by the order of seed 1, and so on.
 fn run_all<R: Threads + Wait + Sync>(
     rt: &R,
     alloc: Global,
@@ -84,7 +84,7 @@ fn run_all<R: Threads + Wait + Sync>(
     Ok(steps)
 }
 
-/// How many steps so many runs of a script have in all. Nothing where the bytes are no script.
+/// How many steps `times` runs of a script have in all. `None` where the bytes are no script.
 pub fn steps_of<R: Threads + Wait + Sync>(
     rt: &R,
     alloc: Global,

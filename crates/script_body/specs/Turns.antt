@@ -6,17 +6,17 @@ use Rattle.script_body.specs.declared.turn.Next.{Next}
 use Rattle.script_body.specs.declared.turn.Next.TheVariants as nexts
 
 -- a post, or a local move on a line
-pub data Turn : Type 0 where
-  Posts : Post → Turn
-  MovesOn : ℕ → Turn
+pub data PostOrMove : Type 0 where
+  Posts : Post → PostOrMove
+  MovesOn : ℕ → PostOrMove
 
-abbrev pub turn_of : {S : Type 0} → ℕ → Act S → Turn
+abbrev pub turn_of : {S : Type 0} → ℕ → Act S → PostOrMove
 turn_of line (Moves next) = MovesOn line
 turn_of line (Asks ask after) = Posts (record { ask = Some ask; line = line })
 turn_of line Ends = Posts (record { ask = None; line = line })
 
 -- the turn of which it is told what comes next, where a post stands beside
-abbrev pub told_turn : Next → Post → Turn
+abbrev pub told_turn : Next → Post → PostOrMove
 told_turn nexts.Post post = Posts post
 told_turn (nexts.Move line) post = MovesOn line
 

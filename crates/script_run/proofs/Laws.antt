@@ -3,7 +3,7 @@ use Rattle.std.proofs.Common.{◌≡◌, ◌≤◌, ℕ, List, Option, Some, Non
 use Rattle.std.proofs.Common.{subst}
 use Rattle.std.specs.Prelude.{IfOk}
 use Rattle.rank_now.specs.declared.moment.Moment.{Moment}
-use Rattle.policy_pick.specs.Plan.{Plan, SpeaksOf, ByPoints, ByEvents}
+use Rattle.policy_pick.specs.Plan.{Plan, SpeaksOf, ByPoints, ByMoments}
 use Rattle.worker_run.specs.Run.{run, directed_run}
 use Rattle.worker_run.specs.Played.{IsRun}
 use Rattle.worker_run.specs.declared.played.Played.{Played}
@@ -39,7 +39,7 @@ module _ {P E : Type 0} (plan : P → Plan) (common : Common) (IsSo : Played →
       → ((ended : Played)
       → IsRun (directed_run common.deal (bodies_of_code common.code) order moments common.limit)
       ended.events ended.outcome → length ended.events ≤ common.limit → IsSo ended)
-      → IfOk made (λ p. plan p ≡ ByEvents order moments)
+      → IfOk made (λ p. plan p ≡ ByMoments order moments)
       → IfOk made (λ p. IsPlanOf common IsSo (plan p))
   by_moments moments (Ok p) so is = record {
     speaks = subst (λ q. SpeaksOf q common.deal.threads) (sym is) (sym whole);

@@ -5,7 +5,7 @@ use Rattle.std.specs.Prelude.{IfOk}
 use Rattle.std.proofs.lemmas.Option.{slice_get_within, slice_get-get_or}
 use Rattle.pct_ask.specs.Bodies.{Pending}
 use Rattle.rank_now.specs.declared.moment.Moment.{Moment}
-use Rattle.policy_pick.specs.Plan.{Plan, ByPoints, ByEvents}
+use Rattle.policy_pick.specs.Plan.{Plan, ByPoints, ByMoments}
 use Rattle.worker_run.specs.Run.{run, directed_run}
 use Rattle.worker_run.specs.Played.{IsPlayed, IsRun}
 use Rattle.worker_run.specs.Batch.{Each}
@@ -64,7 +64,7 @@ pub one-ran : {P : Type 0} {B : Type 0} {E : Type 0} (pending : B → Pending) (
     p.events p.outcome)
     → ((order points : List ℕ) → plan test.policy ≡ ByPoints order points → IfOk made (λ p.
     IsRun (run test.deal (bodies_in pending plan test) order points limit) p.events p.outcome))
-    → ((order : List ℕ) (moments : List Moment) → plan test.policy ≡ ByEvents order moments
+    → ((order : List ℕ) (moments : List Moment) → plan test.policy ≡ ByMoments order moments
     → IfOk made (λ p. IsRun (directed_run test.deal (bodies_in pending plan test) order moments
     limit) p.events p.outcome)) → IfOk made (IsRunOf pending plan test)
 one-ran pending plan test limit (Ok ended) same played by_points by_moments =

@@ -16,7 +16,7 @@ use Rattle.script_body.specs.BodyPosts.{pending_of_body}
 use Rattle.script_body.specs.declared.body.ScriptBody.{ScriptBody}
 use Rattle.script_body.proofs.laws.ScriptBodies.{one_more}
 use Rattle.worker_run.specs.Served.{first_runners}
-use Rattle.worker_run.specs.Tests.{IsRunBy, IsNew, AreNew}
+use Rattle.worker_run.specs.Tests.{IsRunBy, IsNew, AreNewRunners}
 use Rattle.worker_run.specs.declared.played.Played.{Played}
 use Rattle.worker_run.specs.declared.runner.Runner.{Runner}
 use Rattle.script_run.specs.Ready.{bodies_of_code}
@@ -99,7 +99,7 @@ one-runner-more code runners new body t within before is same =
 pub runners-new : (code : List (List Operation)) (deal own : Deal)
     (runners : List (Option (Runner ScriptBody)))
     → ∥ ((script : ScriptText) × AreOf script code deal) ∥₁ → own ≡ deal
-    → AreRunnersOf code runners → AreNew pending_of_body own runners
+    → AreRunnersOf code runners → AreNewRunners pending_of_body own runners
 runners-new code deal own runners of same are = record {
   bodies = are.bodies;
   are = are.are;

@@ -66,7 +66,7 @@ fn book_of<T: Batch>(
     let policy = batch.policy(alloc, place, None)?;
     let deal = batch.script().deal.copy(alloc)?;
     let trace = serving.next_trace(alloc);
-    TurnBook::new_in(alloc, deal, policy, batch.limit().steps(), trace)
+    TurnBook::new_in(alloc, deal, policy, batch.limit(), trace)
 }
 
 /// Makes the runs from one place to before another by the caller, and takes each before the next is

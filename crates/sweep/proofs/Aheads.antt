@@ -4,17 +4,17 @@ use Rattle.std.proofs.Common.{◌≡◌, ℕ, zero, suc, ◌+◌, ◌<◌, ◌�
 use Rattle.std.proofs.Common.{inl, inr, refl, ap, sym, subst, ◌∙◌, length, drop, get_or}
 use Rattle.std.proofs.lemmas.Bool.{cases_eq}
 use Rattle.sweep.specs.declared.choice.Choice.{Choice}
-use Rattle.sweep.specs.Rows.{Setup, choices_of}
+use Rattle.sweep.specs.Rows.{SweepSetup, choices_of}
 use Rattle.sweep.specs.Weights.{weight}
-use Rattle.sweep.specs.Batches.{IsChoiceAt, AreAbove, AreAhead}
+use Rattle.sweep.specs.Batches.{IsChoiceAt, HavePointAbove, AreAhead}
 
-module _ (setup : Setup) (long : ℕ) where
+module _ (setup : SweepSetup) (long : ℕ) where
   pub nothing-ahead : (from : ℕ) → AreAhead setup long from [] from
   nothing-ahead from = (omega arith, λ place choice low high at. absurd (omega (arith, low, high)))
 
-  above-next : (from end : ℕ) → AreAbove setup long from end
+  above-next : (from end : ℕ) → HavePointAbove setup long from end
       → ((choice : Choice) → IsChoiceAt setup end choice
-      → weight setup.steps long choice.points ≡ 0) → AreAbove setup long from (end + 1)
+      → weight setup.steps long choice.points ≡ 0) → HavePointAbove setup long from (end + 1)
   above-next from end before last place choice low high at = elim (cases_eq place end) [
     | inl same ↦ last choice (ap (slice_get (choices_of setup)) (sym same) ∙ at)
     | inr other ↦ before place choice low (omega (arith, high, other)) at
@@ -68,7 +68,7 @@ module _ (setup : Setup) (long : ℕ) where
   pub record IsNext (from end place : ℕ) (places : List ℕ) : Type 0 where
     pub from_here : from ≤ place
     pub to_there : place < end
-    pub above : AreAbove setup long from place
+    pub above : HavePointAbove setup long from place
     pub ahead : AreAhead setup long (place + 1) places end
 
   pub next-ahead : (from end k place : ℕ) (places : List ℕ) → k < length places
@@ -91,6 +91,6 @@ module _ (setup : Setup) (long : ℕ) where
   -- none is left
   pub none-ahead : (from end k : ℕ) (places : List ℕ) → length places ≤ k
       → AreAhead setup long from (drop k places) end
-      → (from ≤ end) × AreAbove setup long from end
+      → (from ≤ end) × HavePointAbove setup long from end
   none-ahead from end k places short are =
       subst (λ l. AreAhead setup long from l end) (drop-all places k short) are

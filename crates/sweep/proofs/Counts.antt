@@ -26,7 +26,7 @@ use Rattle.choices.proofs.laws.ListedOnce.{all-orders, all-points}
 use Rattle.choices.proofs.laws.ListedOnce.{listed-all}
 use Rattle.sweep.specs.Choices.{choice_of, choice_count}
 use Rattle.sweep.specs.declared.choice.Choice.{Choice}
-use Rattle.sweep.specs.Rows.{Setup, row_of_choice, rows_from, choices_of}
+use Rattle.sweep.specs.Rows.{SweepSetup, row_of_choice, rows_from, choices_of}
 use Rattle.sweep.specs.Swept.{IsSweep, hits_of, RunsTo, IsFailure, AllPass, IsCounted}
 use Rattle.sweep.specs.Swept.{SweepsAreCounted}
 use Rattle.sweep.specs.declared.sweeping.Swept.{Swept}
@@ -39,7 +39,7 @@ use Rattle.sweep.proofs.RowLemmas.{same-sym, IsRowOf, row-of, ones, has, length-
 -- ---- rows and choices
 
 -- the choice of a row, and the row of a choice
-choice-of : (setup : Setup) (place : ℕ) (cs : List Choice) (rows : List Row)
+choice-of : (setup : SweepSetup) (place : ℕ) (cs : List Choice) (rows : List Row)
     → map Some rows ≡ rows_from setup place cs → (k : ℕ) (row : Row) → slice_get rows k ≡ Some row
     → (choice : Choice) × (slice_get cs k ≡ Some choice) × IsRowOf setup (place + k) choice row
 choice-of setup place cs [] are k row at = absurd cc
@@ -59,7 +59,7 @@ choice-of setup place (c ∷ cs) (r ∷ rows) are (suc k) row at =
     let R : ℕ → Type 0 = λ n. IsRowOf setup n rest.0 row in
     (rest.0, rest.1, subst R (let e : suc place + k ≡ place + suc k = omega arith in e) rest.2)
 
-row-at : (setup : Setup) (place : ℕ) (cs : List Choice) (rows : List Row)
+row-at : (setup : SweepSetup) (place : ℕ) (cs : List Choice) (rows : List Row)
     → map Some rows ≡ rows_from setup place cs → (k : ℕ) (choice : Choice)
     → slice_get cs k ≡ Some choice
     → (row : Row) × (slice_get rows k ≡ Some row) × IsRowOf setup (place + k) choice row
@@ -80,7 +80,7 @@ row-at setup place (c ∷ cs) (r ∷ rows) are (suc k) choice at =
     let R : ℕ → Type 0 = λ n. IsRowOf setup n choice rest.0 in
     (rest.0, rest.1, subst R (let e : suc place + k ≡ place + suc k = omega arith in e) rest.2)
 
-length-rows : (setup : Setup) (place : ℕ) (cs : List Choice) (rows : List Row)
+length-rows : (setup : SweepSetup) (place : ℕ) (cs : List Choice) (rows : List Row)
     → map Some rows ≡ rows_from setup place cs → length rows ≡ length cs
 length-rows setup place [] [] are = refl
 length-rows setup place (c ∷ cs) [] are = absurd cc
@@ -91,7 +91,8 @@ length-rows setup place (c ∷ cs) (r ∷ rows) are =
 
 -- ---- the rows of a verdict are as many as the choices that have it
 
-rows-counted : (setup : Setup) (verdict : Verdict) (place : ℕ) (cs : List Choice) (rows : List Row)
+rows-counted : (setup : SweepSetup) (verdict : Verdict) (place : ℕ) (cs : List Choice)
+    (rows : List Row)
     → map Some rows ≡ rows_from setup place cs
     → length (rows_with verdict rows) ≡ count_by (has setup verdict) cs
 rows-counted setup verdict place [] [] are = refl
@@ -231,7 +232,7 @@ groups-one (h ∷ gs) verdict (suc k) g apart at is =
           (λ i j a b less x y. apart (suc i) (suc j) a b (omega arith) x y) at is,
     )
 
-module _ (setup : Setup) (swept : Swept) (is : IsSweep setup swept) where
+module _ (setup : SweepSetup) (swept : Swept) (is : IsSweep setup swept) where
   abbrev rows : List Row
   rows = is.rows
 

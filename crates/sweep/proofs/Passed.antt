@@ -4,7 +4,7 @@ use Rattle.std.specs.Option.{is_some}
 use Rattle.script_run.specs.Batches.{Decides}
 use Rattle.sweep.specs.declared.next.Counts.{Counts}
 use Rattle.sweep.specs.declared.next.NextRuns.{NextRuns}
-use Rattle.sweep.specs.Batches.{setup_of_sweep, AreAbove, HasCounted, HasCountedNext}
+use Rattle.sweep.specs.Batches.{setup_of_sweep, HavePointAbove, HasCounted, HasCountedNext}
 use Rattle.sweep.specs.Batches.{HasCountedLonger}
 use Rattle.sweep.proofs.Aheads.{none-ahead}
 use Rattle.sweep.proofs.Steps.{pass-by}
@@ -31,5 +31,6 @@ passed-all next counts i found none decides short =
     next.ahead.now.places.items short has.ahead in
     pass-by setup (next.sweep.now).some_steps counts.reach counts.tally next.ahead.now.end rest.0
     (omega (arith, next.end, (next.sweep.now).whole))
-    (subst (λ n. AreAbove setup n counts.reach.place next.ahead.now.end) (sym has.same) rest.1)
+    (subst (λ n. HavePointAbove setup n counts.reach.place next.ahead.now.end) (sym has.same)
+    rest.1)
     has.counted

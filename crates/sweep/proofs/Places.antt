@@ -15,7 +15,8 @@ use Rattle.choices.specs.PointLists.{pointlists}
 use Rattle.choices.proofs.laws.Factorials.{some-orders, fewer-orders}
 use Rattle.choices.proofs.laws.OrderLists.{get-left, get-right, get-map}
 use Rattle.choices.proofs.laws.Counts.{range-get}
-use Rattle.choices.specs.Laws.{IsOrderOf, ArePoints}
+use Rattle.rank_now.specs.Order.{IsOrderOf}
+use Rattle.choices.specs.Laws.{ArePoints}
 use Rattle.choices.proofs.laws.ListedOnce.{all-orders, all-points, in-append, in-map}
 use Rattle.sweep.specs.Choices.{choice_of, choices, choice_count, most_choices, IsCountWithin}
 use Rattle.sweep.specs.declared.choice.Choice.{Choice}

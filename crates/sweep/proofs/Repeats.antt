@@ -16,7 +16,7 @@ use Rattle.rank_now.proofs.laws.Positions.{greatest-agree, rank_by-agree}
 use Rattle.turn_book.specs.Posts.{schedule_of}
 use Rattle.worker_run.specs.Run.{Run, run}
 use Rattle.worker_run.proofs.laws.SameRuns.{same-from}
-use Rattle.sweep.specs.Rows.{Setup, leads}
+use Rattle.sweep.specs.Rows.{SweepSetup, leads}
 use Rattle.sweep.specs.Weights.{top}
 use Rattle.sweep.proofs.Totals.{runs}
 use Rattle.sweep.proofs.Weights.{AreLike}
@@ -94,7 +94,7 @@ length-schedule : (made : List Event) → length (schedule_of made) ≡ length m
 length-schedule made = length-map made (λ (e : Event). e.thread)
 
 -- points that are like each other from a bound on, which isn't below the run's length
-pub same-leads : (setup : Setup) (order ps qs : List ℕ) (t : ℕ) (ran : Run)
+pub same-leads : (setup : SweepSetup) (order ps qs : List ℕ) (t : ℕ) (ran : Run)
     → leads setup order ps ≡ Some ran → length ran.0 ≤ t → AreLike t ps qs
     → leads setup order qs ≡ Some ran
 same-leads setup order ps qs t ran is short are =
@@ -110,7 +110,7 @@ pub top-long : (r : Option Run) (ran : Run) → r ≡ Some ran → length ran.0 
 top-long r ran is =
     subst (λ (o : Option Run). length ran.0 ≤ top o) (sym is) (le-max_left (length ran.0) 1)
 
-pub leads-repeat : (setup : Setup) (order ps qs : List ℕ)
+pub leads-repeat : (setup : SweepSetup) (order ps qs : List ℕ)
     → AreLike (top (leads setup order ps)) ps qs → leads setup order qs ≡ leads setup order ps
 leads-repeat setup order ps qs are =
     let ran = runs setup.deal setup.bodies order ps setup.limit in

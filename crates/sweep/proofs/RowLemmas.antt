@@ -11,20 +11,20 @@ use Rattle.worker_run.specs.Run.{Run}
 use Rattle.failure_rank.proofs.Laws.{same-true, same-false, verdict_cases}
 use Rattle.choices.specs.Counting.{has_verdict}
 use Rattle.sweep.specs.declared.choice.Choice.{Choice}
-use Rattle.sweep.specs.Rows.{Setup, leads, row_of_run, row_of_choice}
+use Rattle.sweep.specs.Rows.{SweepSetup, leads, row_of_run, row_of_choice}
 
 pub same-sym : (v w : Verdict) → same_verdict v w ≡ same_verdict w v
 same-sym v w = verdict_cases v w (same_verdict v w ≡ same_verdict w v)
     (λ e. same-true v w e ∙ sym (same-true w v (sym e)))
     (λ n. same-false v w n ∙ sym (same-false w v (λ e. n (sym e))))
 
-pub record IsRowOf (setup : Setup) (place : ℕ) (choice : Choice) (row : Row) : Type 0 where
+pub record IsRowOf (setup : SweepSetup) (place : ℕ) (choice : Choice) (row : Row) : Type 0 where
   pub made : List Event
   pub is_run : leads setup choice.order choice.points ≡ Some (made, row.verdict)
   pub seed : row.seed ≡ place
   pub steps : row.steps ≡ length made
 
-pub row-of : (setup : Setup) (place : ℕ) (choice : Choice) (row : Row)
+pub row-of : (setup : SweepSetup) (place : ℕ) (choice : Choice) (row : Row)
     → row_of_choice setup place choice ≡ Some row → IsRowOf setup place choice row
 row-of setup place choice row is = by (leads setup choice.order choice.points) refl
   where
@@ -46,7 +46,7 @@ row-of setup place choice row is = by (leads setup choice.order choice.points) r
 abbrev pub ones : Bool → ℕ
 ones b = cond b 1 0
 
-abbrev pub has : Setup → Verdict → Choice → Bool
+abbrev pub has : SweepSetup → Verdict → Choice → Bool
 has setup verdict choice = has_verdict verdict (leads setup choice.order choice.points)
 
 pub length-filter-cons : {X : Type 0} (p : X → Bool) (x : X) (xs : List X)

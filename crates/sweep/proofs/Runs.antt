@@ -11,7 +11,8 @@ use Rattle.script_run.specs.Batches.{IsPlanOf}
 use Rattle.script_run.proofs.Laws.{by_points}
 use Rattle.sweep.specs.declared.choice.Choice.{Choice}
 use Rattle.sweep.specs.declared.next.NextRuns.{NextRuns}
-use Rattle.sweep.specs.Batches.{common_of_sweep, setup_of_sweep, IsChoiceAt, IsRunAt, IsRunOfNext}
+use Rattle.sweep.specs.Batches.{common_of_sweep, setup_of_sweep, IsChoiceAt, IsRunOfChoice}
+use Rattle.sweep.specs.Batches.{IsRunOfNext}
 
 -- a policy that was made of the choice at a place is of the run of the number at which the place
 -- stands
@@ -34,7 +35,7 @@ next-planned next i place choice made order points within is at ordered pointed 
     let both : Some (get_or next.ahead.now.places.items i place) ≡ Some other =
     sym (slice_get-get_or next.ahead.now.places.items i place within) ∙ there in
     let same : get_or next.ahead.now.places.items i place ≡ other = cc in
-    subst (λ p. IsRunAt setup p ended) (is ∙ same) (record {
+    subst (λ p. IsRunOfChoice setup p ended) (is ∙ same) (record {
       choice = choice;
       at = at;
       run = subst (λ o. R o choice.points) ordered (subst (R order) pointed ran);

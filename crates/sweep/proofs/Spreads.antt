@@ -18,7 +18,7 @@ use Rattle.choices.specs.Counting.{has_verdict}
 use Rattle.choices.proofs.laws.ListedOnce.{in-append}
 use Rattle.choices.proofs.laws.OrderLists.{get-left, get-right}
 use Rattle.sweep.specs.declared.choice.Choice.{Choice}
-use Rattle.sweep.specs.Rows.{Setup, row_of_run, row_of_choice, rows_from}
+use Rattle.sweep.specs.Rows.{SweepSetup, row_of_run, row_of_choice, rows_from}
 use Rattle.sweep.specs.Weights.{copies, spread}
 use Rattle.sweep.proofs.Lists.{filter-first}
 use Rattle.sweep.proofs.RowLemmas.{same-sym, row-of, ones, has, length-filter-cons}
@@ -26,7 +26,7 @@ use Rattle.sweep.proofs.Totals.{runs}
 
 -- ---- the row of a choice
 
-module _ (setup : Setup) where
+module _ (setup : SweepSetup) where
   pub own-row : (place : ℕ) (choice : Choice)
       → (row : Row) × (row_of_choice setup place choice ≡ Some row)
   own-row place choice =
@@ -65,7 +65,7 @@ repeated (suc n) (suc k) x y at = repeated n k x y at
 
 -- ---- all of them
 
-module _ (setup : Setup) (often : Choice → ℕ) where
+module _ (setup : SweepSetup) (often : Choice → ℕ) where
   pub length-spread : (place : ℕ) (cs : List Choice)
       → length (spread often setup place cs) ≡ sum_by often cs
   length-spread place [] = refl
@@ -243,7 +243,7 @@ module _ (setup : Setup) (often : Choice → ℕ) where
       ]
 
 -- each row once is the list of rows
-pub spread-once : (setup : Setup) (place : ℕ) (cs : List Choice)
+pub spread-once : (setup : SweepSetup) (place : ℕ) (cs : List Choice)
     → map Some (spread (λ c. 1) setup place cs) ≡ rows_from setup place cs
 spread-once setup place [] = refl
 spread-once setup place (c ∷ cs) =

@@ -19,9 +19,9 @@ use Rattle.failure_rank.specs.declared.tally.Tally.{Tally}
 use Rattle.sweep.specs.Choices.{choice_of, choice_count}
 use Rattle.sweep.specs.declared.choice.Choice.{Choice}
 use Rattle.sweep.specs.declared.common.Reach.{Reach}
-use Rattle.sweep.specs.Rows.{Setup, leads, row_of_run, row_of_choice, choices_of}
+use Rattle.sweep.specs.Rows.{SweepSetup, leads, row_of_run, row_of_choice, choices_of}
 use Rattle.sweep.specs.Weights.{weight, top, copies, spread, often_in}
-use Rattle.sweep.specs.Batches.{IsChoiceAt, IsRunAt, HasCounted, AreAbove}
+use Rattle.sweep.specs.Batches.{IsChoiceAt, IsRunOfChoice, HasCounted, HavePointAbove}
 use Rattle.sweep.proofs.Places.{listed-choice, item-at}
 use Rattle.sweep.proofs.Rows.{length-choices, take-next}
 use Rattle.sweep.proofs.Clips.{clip, clip-like, clipped, none-below}
@@ -30,7 +30,7 @@ use Rattle.sweep.proofs.Spreads.{own-row, spread-more, spread-parts}
 use Rattle.sweep.proofs.Totals.{runs}
 use Rattle.sweep.proofs.Whole.{length-told}
 
-module _ (setup : Setup) where
+module _ (setup : SweepSetup) where
   abbrev cs : List Choice
   cs = choices_of setup
 
@@ -135,7 +135,7 @@ module _ (setup : Setup) where
     -- and so do all up to the next that is to be run
     pub pass-by : (reach : Reach) (tally : Tally) (end : ℕ) → reach.place ≤ end
         → end ≤ choice_count setup.deal.threads setup.steps setup.many
-        → AreAbove setup reach.longest reach.place end → HasCounted setup reach tally
+        → HavePointAbove setup reach.longest reach.place end → HasCounted setup reach tally
         → HasCounted setup (record reach { place = end }) tally
     pass-by reach tally end order within above before =
         let P : ℕ → Type 0 = λ n. HasCounted setup (record reach { place = n }) tally in
@@ -158,7 +158,7 @@ module _ (setup : Setup) where
 
   -- one more run, for all choices for which it stands
   pub run-counted : (reach now : Reach) (tally new : Tally) (played : Played) (row : Row)
-      (stands : ℕ) (is : IsRunAt setup reach.place played) → HasCounted setup reach tally
+      (stands : ℕ) (is : IsRunOfChoice setup reach.place played) → HasCounted setup reach tally
       → row.seed ≡ reach.place → row.steps ≡ length played.events
       → played.outcome ≡ Ends row.verdict
       → stands ≡ weight setup.steps (max (length played.events) 1) (is.choice).points

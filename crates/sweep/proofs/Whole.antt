@@ -17,7 +17,7 @@ use Rattle.choices.specs.PointLists.{pointlists}
 use Rattle.choices.specs.Counting.{has_verdict}
 use Rattle.sweep.specs.Choices.{choice_of, choice_count}
 use Rattle.sweep.specs.declared.choice.Choice.{Choice}
-use Rattle.sweep.specs.Rows.{Setup, leads, row_of_choice, choices_of}
+use Rattle.sweep.specs.Rows.{SweepSetup, leads, row_of_choice, choices_of}
 use Rattle.sweep.specs.Weights.{weight, top, spread, often_in}
 use Rattle.sweep.proofs.Lists.{filter-item, filter-has, sum-same, sum-ones, sum-flat}
 use Rattle.sweep.proofs.RowLemmas.{row-of, ones, has}
@@ -29,7 +29,7 @@ use Rattle.sweep.proofs.Spreads.{own-row, length-spread, spread-counted, in-spre
 use Rattle.sweep.proofs.Spreads.{to-spread, first-least}
 use Rattle.sweep.proofs.Alike.{AreAlike, first_seed, ranking-alike}
 
-module _ (setup : Setup) where
+module _ (setup : SweepSetup) where
   abbrev cs : List Choice
   cs = choices_of setup
 

@@ -11,7 +11,7 @@ use Rattle.script_run.specs.Batches.{Common}
 use Rattle.failure_rank.specs.Growing.{IsTally}
 use Rattle.failure_rank.specs.declared.tally.Tally.{Tally}
 use Rattle.sweep.specs.declared.choice.Choice.{Choice}
-use Rattle.sweep.specs.Rows.{Setup, leads, choices_of}
+use Rattle.sweep.specs.Rows.{SweepSetup, leads, choices_of}
 use Rattle.sweep.specs.Weights.{weight, spread, often_in}
 use Rattle.sweep.specs.declared.common.Sweep.{Sweep}
 use Rattle.sweep.specs.declared.common.Reach.{Reach}
@@ -19,7 +19,7 @@ use Rattle.sweep.specs.declared.next.Counts.{Counts}
 use Rattle.sweep.specs.declared.next.NextRuns.{NextRuns}
 
 -- what the sweep's runs have in common
-abbrev pub setup_of_sweep : Sweep → Setup
+abbrev pub setup_of_sweep : Sweep → SweepSetup
 setup_of_sweep sweep = record {
   deal = sweep.script.deal.now;
   bodies = bodies_of_code (listing sweep.script.code.now);
@@ -37,11 +37,11 @@ common_of_sweep sweep = record {
 }
 
 -- the choice stands at the place, from 0, among all
-abbrev pub IsChoiceAt : Setup → ℕ → Choice → Type 0
+abbrev pub IsChoiceAt : SweepSetup → ℕ → Choice → Type 0
 IsChoiceAt setup place choice = slice_get (choices_of setup) place ≡ Some choice
 
 -- the run of the choice at the place, of at most so many steps as the limit says
-pub record IsRunAt (setup : Setup) (place : ℕ) (played : Played) : Type 0 where
+pub record IsRunOfChoice (setup : SweepSetup) (place : ℕ) (played : Played) : Type 0 where
   pub choice : Choice
   pub at : IsChoiceAt setup place choice
   pub run : IsRun (leads setup choice.order choice.points) played.events played.outcome
@@ -49,7 +49,7 @@ pub record IsRunAt (setup : Setup) (place : ℕ) (played : Played) : Type 0 wher
 
 -- Each choice before the place is counted: its row as often as there are choices for which it
 -- stands. None of their runs is longer than the longest.
-pub record HasCounted (setup : Setup) (reach : Reach) (tally : Tally) : Type 0 where
+pub record HasCounted (setup : SweepSetup) (reach : Reach) (tally : Tally) : Type 0 where
   pub some : 1 ≤ reach.longest
   pub short : (place : ℕ) (choice : Choice) (ran : Run) → place < reach.place
       → IsChoiceAt setup place choice → leads setup choice.order choice.points ≡ Some ran
@@ -58,17 +58,17 @@ pub record HasCounted (setup : Setup) (reach : Reach) (tally : Tally) : Type 0 w
       tally
 
 -- the choices from one place to before another have a point above the length
-abbrev pub AreAbove : Setup → ℕ → ℕ → ℕ → Type 0
-AreAbove setup long from end =
+abbrev pub HavePointAbove : SweepSetup → ℕ → ℕ → ℕ → Type 0
+HavePointAbove setup long from end =
     (place : ℕ) (choice : Choice) → from ≤ place → place < end → IsChoiceAt setup place choice
     → weight setup.steps long choice.points ≡ 0
 
 -- places in their order, from one on to before another, between which all choices have a point
 -- above the length
-abbrev pub AreAhead : Setup → ℕ → ℕ → List ℕ → ℕ → Type 0
-AreAhead setup long from [] end = (from ≤ end) × AreAbove setup long from end
+abbrev pub AreAhead : SweepSetup → ℕ → ℕ → List ℕ → ℕ → Type 0
+AreAhead setup long from [] end = (from ≤ end) × HavePointAbove setup long from end
 AreAhead setup long from (place ∷ places) end =
-    (from ≤ place) × (place < end) × AreAbove setup long from place
+    (from ≤ place) × (place < end) × HavePointAbove setup long from place
     × AreAhead setup long (suc place) places end
 
 -- ---- the choices that come next
@@ -76,7 +76,7 @@ AreAhead setup long from (place ∷ places) end =
 -- the run of the one of this number among them
 abbrev pub IsRunOfNext : NextRuns → ℕ → Played → Type 0
 IsRunOfNext next i played = (place : ℕ) → slice_get next.ahead.now.places.items i ≡ Some place
-    → IsRunAt (setup_of_sweep next.sweep.now) place played
+    → IsRunOfChoice (setup_of_sweep next.sweep.now) place played
 
 -- those before the one of this number are counted, and none was longer than the runs before them
 pub record HasCountedNext (next : NextRuns) (counts : Counts) (i : ℕ) : Type 0 where

@@ -11,7 +11,7 @@ use Rattle.sweep.specs.declared.choice.Choice.{Choice}
 
 -- what the runs of a sweep have in common: what the threads share, their bodies, the number of
 -- change points, from how many steps they are, and the limit
-pub record Setup : Type 0 where
+pub record SweepSetup : Type 0 where
   pub deal : Deal
   pub bodies : List Pending
   pub many : ℕ
@@ -19,7 +19,7 @@ pub record Setup : Type 0 where
   pub limit : ℕ
 
 -- the run that an order and points lead to
-abbrev pub leads : Setup → List ℕ → List ℕ → Option Run
+abbrev pub leads : SweepSetup → List ℕ → List ℕ → Option Run
 leads setup order points = run setup.deal setup.bodies order points setup.limit
 
 -- the row of a choice: its place among all, the number of its run's steps, and the verdict
@@ -27,16 +27,16 @@ abbrev pub row_of_run : ℕ → Run → Row
 row_of_run place ended = record { seed = place; steps = length ended.0; verdict = ended.1 }
 
 -- the row of a choice at its place, where there is such a run
-abbrev pub row_of_choice : Setup → ℕ → Choice → Option Row
+abbrev pub row_of_choice : SweepSetup → ℕ → Choice → Option Row
 row_of_choice setup place choice =
     option_map (row_of_run place) (leads setup choice.order choice.points)
 
 -- a row for each choice, of which the first has this place
-abbrev pub rows_from : Setup → ℕ → List Choice → List (Option Row)
+abbrev pub rows_from : SweepSetup → ℕ → List Choice → List (Option Row)
 rows_from setup place [] = []
 rows_from setup place (choice ∷ more) =
     row_of_choice setup place choice ∷ rows_from setup (suc place) more
 
 -- all choices of an order of the deal's threads and of so many points in 1..k
-abbrev pub choices_of : Setup → List Choice
+abbrev pub choices_of : SweepSetup → List Choice
 choices_of setup = choices setup.deal.threads setup.steps setup.many

@@ -7,7 +7,7 @@ use Rattle.std.specs.Prelude.{length, Option, Some, None, replicate}
 use Rattle.pct_ask.specs.declared.event.Row.{Row}
 use Rattle.worker_run.specs.Run.{Run}
 use Rattle.sweep.specs.declared.choice.Choice.{Choice}
-use Rattle.sweep.specs.Rows.{Setup, leads, row_of_choice}
+use Rattle.sweep.specs.Rows.{SweepSetup, leads, row_of_choice}
 
 -- A point below a run's length stands for itself; the run's length stands for all points from it to
 -- k; and a point above it stands for none.
@@ -30,12 +30,12 @@ copies n None = []
 copies n (Some row) = replicate n row
 
 -- the row of each choice, of which the first has this place, as often as it is told
-abbrev pub spread : (Choice → ℕ) → Setup → ℕ → List Choice → List Row
+abbrev pub spread : (Choice → ℕ) → SweepSetup → ℕ → List Choice → List Row
 spread often setup place [] = []
 spread often setup place (choice ∷ more) =
     copies (often choice) (row_of_choice setup place choice) ++ spread often setup (suc place) more
 
 -- as often as there are choices for which it stands
-abbrev pub often_in : Setup → Choice → ℕ
+abbrev pub often_in : SweepSetup → Choice → ℕ
 often_in setup choice =
     weight setup.steps (top (leads setup choice.order choice.points)) choice.points

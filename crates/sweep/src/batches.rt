@@ -5,8 +5,8 @@ ghost use Rattle.policy_pick.specs.Kept.{points_plan, PointsStand};
 ghost use Rattle.script_run.specs.Batches.{IsPlanOf};
 ghost use Rattle.pct_ask.specs.declared.event.Row.{Row};
 ghost use Rattle.failure_rank.specs.Growing.{IsTally};
-ghost use Rattle.sweep.specs.Batches.{common_of_sweep, setup_of_sweep, IsRunAt, HasCounted};
-ghost use Rattle.sweep.specs.Batches.{AreAbove};
+ghost use Rattle.sweep.specs.Batches.{common_of_sweep, setup_of_sweep, IsRunOfChoice, HasCounted};
+ghost use Rattle.sweep.specs.Batches.{HavePointAbove};
 ghost use Rattle.sweep.specs.Batches.{IsRunOfNext, HasCountedNext, HasCountedLonger};
 
 use crate::ahead::{choices_ahead, stands_for};
@@ -21,7 +21,7 @@ use script_run::{Batch, ReadyScript, run_batch};
 use std::alloc::{AllocError as NoMemory, Global};
 use std::sync::Wait;
 use std::thread::Threads;
-use worker_run::{Serving, step_count, verdict_of};
+use worker_run::{Serving, count_steps, verdict_of};
 
 /// Counts a row so many times.
 fn add_copies(tally: &mut Tally, row: &Row, times: u32) -> Result<(), NoMemory>
@@ -46,15 +46,15 @@ fn count_run(
 ) -> Result<Reach, NoMemory>
     requires ahead { reach.place ≤ place }
     requires place { place < sweep.now.choices }
-    requires above { AreAbove (setup_of_sweep sweep.now) reach.longest reach.place place }
-    requires run { IsRunAt (setup_of_sweep sweep.now) place
+    requires above { HavePointAbove (setup_of_sweep sweep.now) reach.longest reach.place place }
+    requires run { IsRunOfChoice (setup_of_sweep sweep.now) place
         (record { events = events.now; outcome = outcome.now }) }
     requires before { HasCounted (setup_of_sweep sweep.now) reach tally.old }
     ensures place { IfOk result (λ now. now.place ≡ place + 1) }
     ensures longest { IfOk result (λ now. reach.longest ≤ now.longest) }
     ensures counted { IfOk result (λ now. HasCounted (setup_of_sweep sweep.now) now tally.new) }
 {
-    let steps = step_count(events, sweep.limit);
+    let steps = count_steps(events, sweep.limit);
     let row = Row {
         seed: u64::from(place),
         steps,

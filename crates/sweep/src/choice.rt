@@ -35,7 +35,7 @@ fn times(number: u32, factor: u32) -> Option<u32>
 }
 
 /// In how many orders so many threads can stand, where these aren't more than the most.
-fn order_count(threads: u32) -> Option<u32>
+fn few_orders(threads: u32) -> Option<u32>
     ensures { IsCountWithin (factorial threads) result }
 {
     let mut count = 1;
@@ -51,7 +51,7 @@ pub fn choice_count(threads: u32, steps: u32, points: u32) -> Option<u32>
     requires { 1 ≤ steps }
     ensures { IsCountWithin (listed.choice_count threads steps points) result }
 {
-    let mut count = order_count(threads)?;
+    let mut count = few_orders(threads)?;
     for _point in 0..points {
         count = times(count, steps)?;
     }

@@ -1,16 +1,15 @@
-ghost use Rattle.std.specs.Prelude.{◌≤◌, IfOk};
+ghost use Rattle.std.specs.Prelude.{◌≤◌, ◌-◌, IfOk};
 ghost use Rattle.script_tree.specs.ScriptText.{ScriptText};
 ghost use Rattle.script_code.specs.Listing.{listing};
 ghost use Rattle.script_body.specs.Bodies.{bodies_of, AreOf};
 ghost use Rattle.sweep.specs.Swept.{Sweeps};
-ghost use Rattle.pct_ask.specs.declared.limits.TheConstants.{MAX_POINTS, MAX_STEPS};
 
 use crate::batches::count_ahead;
 use crate::choice::choice_count;
 use crate::common::Sweep;
 use crate::next::Counts;
 use failure_rank::Groups;
-use pct_ask::{Deal, Limit};
+use pct_ask::{Deal, Depth, Limit};
 use pct_outside::Gate;
 use script_code::Code;
 use script_run::ReadyScript;
@@ -52,38 +51,35 @@ fn next_size(size: u32, most: u32, is_longer: bool) -> u32
     }
 }
 
-/// Runs a script's code under each choice of an order of its threads and of so many change points,
-/// each from 1 to `steps`, and counts how the runs end. The bodies are served by threads or by the
-/// caller. A run has at most `limit` steps. Where a point isn't below the length of a run, all
-/// greater points repeat the run, which is made once and counted for each. Threads are started once
-/// for a batch of choices, whose runs may overlap in time; where one couldn't be started, or there
-/// was no memory for threads, the caller serves the rest. The gate is passed before each post.
+/// Runs a script's code under each choice of an order of its threads and of `depth - 1` change
+/// points, each from 1 to `steps`, and counts how the runs end. The bodies are served by threads or
+/// by the caller. A run has at most `limit` steps. Where a point isn't below the length of a run,
+/// all greater points repeat the run, which is made once and counted for each. Threads are started
+/// once for a batch of choices, whose runs may overlap in time; where one couldn't be started, or
+/// there was no memory for threads, the caller serves the rest. The gate is passed before each post.
 pub fn sweep<R: Threads + Wait + Sync, G: Gate>(
     rt: &R,
     alloc: Global,
     code: &Code,
     deal: &Deal,
-    points: u32,
-    steps: u32,
-    limit: u32,
+    depth: Depth,
+    steps: Limit,
+    limit: Limit,
     serve: Serve,
     gate: &G,
 ) -> Result<Answer, NoMemory>
-    requires script { (script : ScriptText) × AreOf script (listing code.now) deal.now }
-    requires few_points { points ≤ MAX_POINTS }
-    requires some_steps { 1 ≤ steps }
-    requires few_steps { steps ≤ MAX_STEPS }
-    requires some_limit { 1 ≤ limit }
-    requires low_limit { limit ≤ MAX_STEPS }
+    requires { (script : ScriptText) × AreOf script (listing code.now) deal.now }
     ensures { (script : ScriptText) → AreOf script (listing code.now) deal.now
         → IfOk result (Sweeps (record {
           deal = deal.now;
           bodies = bodies_of script;
-          many = points;
+          many = depth - 1;
           steps = steps;
           limit = limit;
         })) }
 {
+    let points = depth.points();
+    let steps = steps.steps();
     let Some(choices) = choice_count(deal.threads, steps, points) else {
         return Ok(Answer::TooMany);
     };
@@ -91,7 +87,7 @@ pub fn sweep<R: Threads + Wait + Sync, G: Gate>(
         script: ReadyScript { code, deal },
         points,
         steps,
-        limit: Limit::new(limit),
+        limit,
         choices,
     };
     let mut serving = Serving::new(alloc, serve);

@@ -37,7 +37,7 @@ use Rattle.turn_book.specs.Chances.{NextPosts, is_unknown, is_ended, chance_by, 
 use Rattle.turn_book.specs.Chances.{chance_of_post, chance, chances, blocked_at, verdict_of_blocked}
 use Rattle.turn_book.specs.Told.{standing_by_ask, standing_by}
 use Rattle.turn_book.specs.Board.{IsBoard, next_posts_of, ask_of_post, ArePostsInRange, joins}
-use Rattle.turn_book.specs.Board.{AreKnown, AreWaiters, IsFresh, WereChances, locks_ask}
+use Rattle.turn_book.specs.Board.{AreKnownChances, AreWaiters, IsFresh, WereChances, locks_ask}
 use Rattle.turn_book.specs.Board.{concerns_ask, concerns, may_wait}
 use Rattle.turn_book.proofs.laws.MorePosts.{readiness-same}
 
@@ -424,7 +424,7 @@ module _ (store : StoreState) (posts : List (Option Post)) (standings : List Sta
   pub board-set : (after : StoreState) (t : ℕ) (post : Option Post) (standing : Standing)
       (more : ℕ) (looked : List Chance) → sizes_of after ≡ sizes_of store
       → PostIsInRange (sizes_of store) (ask_of_post post) → standing ≡ standing_by post
-      → length looked ≡ length known → AreKnown after (set posts t post) more looked
+      → length looked ≡ length known → AreKnownChances after (set posts t post) more looked
       → IsBoard after (set posts t post) (set standings t standing) looked more
   board-set after t post standing more looked sizes range stands long is =
       let threads : after.threads ≡ store.threads = ap (λ (s : Sizes). s.threads) sizes in

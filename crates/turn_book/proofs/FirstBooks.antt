@@ -17,7 +17,7 @@ use Rattle.policy_pick.specs.declared.chance.Chance.{Chance}
 use Rattle.policy_pick.specs.declared.chance.Chance.TheVariants.{Away}
 use Rattle.policy_pick.specs.declared.chance.Pick.{Pick}
 use Rattle.policy_pick.specs.declared.chance.Pick.TheVariants.{Thread, Waits, Nobody, Departs}
-use Rattle.policy_pick.specs.Plan.{Plan, ByPoints, ByEvents, ByList, SpeaksOf}
+use Rattle.policy_pick.specs.Plan.{Plan, ByPoints, ByMoments, ByList, SpeaksOf}
 use Rattle.policy_pick.specs.Choice.{choice, choice_by_list, choice_by_number, chance_of, is_open}
 use Rattle.policy_pick.specs.Choice.{pick_at, MayDepart}
 use Rattle.policy_pick.specs.Laws.Finds.{found-or-none}
@@ -59,7 +59,7 @@ module _ (plan : Plan) (schedule : List ℕ) (all : List Chance) (some : 1 ≤ l
   plan-waits : (p : Plan) (u : ℕ) → SpeaksOf p (length all) → MayDepart p
       → choice p schedule all ≡ Departs u → ⊥
   plan-waits (ByPoints order points) u speaks may e = may
-  plan-waits (ByEvents order moments) u speaks may e = may
+  plan-waits (ByMoments order moments) u speaks may e = may
   plan-waits (ByList listed) u speaks may e =
       list-waits (slice_get listed (length schedule)) u
       (λ t at. first-listed listed (length schedule) t speaks.1 at) e

@@ -29,7 +29,7 @@ use Rattle.turn_book.specs.Chances.{NextPosts, chance, chances, chance_by, chanc
 use Rattle.turn_book.specs.Chances.{chance_of_post}
 use Rattle.turn_book.specs.Chances.{is_unknown, is_ended}
 use Rattle.turn_book.specs.Board.{AreLockers, LockOne, ask_of_post, next_posts_of, locks, locks_ask}
-use Rattle.turn_book.specs.Board.{lockers_at, waits_otherwise, waits_otherwise_ask, AreKnown}
+use Rattle.turn_book.specs.Board.{lockers_at, waits_otherwise, waits_otherwise_ask, AreKnownChances}
 use Rattle.turn_book.specs.Board.{AreWaiters, IsFresh, IsStale, WereChances}
 use Rattle.turn_book.specs.Board.{concerns, concerns_ask, joins}
 use Rattle.turn_book.proofs.Boards.{nothing-posted, chance-at, chances-are, length-chances}
@@ -311,7 +311,7 @@ pub less-stale : (store : StoreState) (posts : List (Option Post)) (lockers : Li
     → chance_of looked u ≡ chance store (next_posts_of posts) u)
     → ((u : ℕ) → u < 64 → bit_at (get_or lockers k 0) u ≡ 0
     → chance_of looked u ≡ chance_of known u)
-    → AreKnown store posts left known → AreKnown store posts (cleared left k) looked
+    → AreKnownChances store posts left known → AreKnownChances store posts (cleared left k) looked
 less-stale store posts lockers are few left k known looked small these others was u there fresh =
     let low : u < 64 = omega arith in
     let ask = ask_of_post (next_posts_of posts u) in
@@ -329,7 +329,7 @@ less-stale store posts lockers are few left k known looked small these others wa
 
 -- where no mutex is stale, all chances are known
 pub none-stale : (store : StoreState) (posts : List (Option Post)) (left : ℕ) (known : List Chance)
-    → left ≡ 0 → length known ≡ store.threads → AreKnown store posts left known
+    → left ≡ 0 → length known ≡ store.threads → AreKnownChances store posts left known
     → known ≡ chances store.threads store (next_posts_of posts)
 none-stale store posts left known none long are =
     chances-are store.threads store (next_posts_of posts) known long (λ u within.

@@ -166,8 +166,8 @@ abbrev pub IsFresh : ℕ → Option Ask → Type 0
 IsFresh stale ask = (m : ℕ) → m < MAX_OBJECTS → bit_at stale m ≡ 1 → locks_ask m ask ≡ false
 
 -- the chance that is kept of a thread is its chance, unless its next post locks a stale mutex
-abbrev pub AreKnown : StoreState → List (Option Post) → ℕ → List Chance → Type 0
-AreKnown store posts stale known =
+abbrev pub AreKnownChances : StoreState → List (Option Post) → ℕ → List Chance → Type 0
+AreKnownChances store posts stale known =
     (u : ℕ) → u < store.threads → IsFresh stale (ask_of_post (next_posts_of posts u))
     → chance_of known u ≡ chance store (next_posts_of posts) u
 
@@ -183,7 +183,7 @@ pub record IsBoard (store : StoreState) (posts : List (Option Post)) (stands : L
   pub in_range : ArePostsInRange store posts
   pub standings : stands ≡ map standing_by posts
   pub as_many : length known ≡ store.threads
-  pub chances : AreKnown store posts stale known
+  pub chances : AreKnownChances store posts stale known
 
 -- a board that keeps these beside the store and the posts
 pub record IsNotedBoard (store : StoreState) (posts : List (Option Post)) (stands : List Standing)

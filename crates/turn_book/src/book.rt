@@ -17,7 +17,7 @@ ghost use Rattle.pct_ask.specs.declared.limits.TheConstants.{MAX_STEPS};
 use crate::board::Board;
 use crate::settle::{after_post, after_step, settle, waits_for};
 use crate::taken::{Because, Reply, Taken, reason};
-use pct_ask::{Deal, Event, EventList, Outcome, Post, Sequence, Standing};
+use pct_ask::{Deal, Event, EventList, Limit, Outcome, Post, Sequence, Standing};
 use policy_pick::{Pick, Policy};
 use std::alloc::{AllocError as NoMemory, Global};
 use std::marker::Model;
@@ -64,7 +64,7 @@ impl<P: Policy> TurnBook<P> {
         ensures made { IfOk result (λ book. book ≡ new_book deal limit (P.plan policy)) }
         ensures lawful { IfOk result IsLawful }
     {
-        TurnBook::new_in(alloc, deal, policy, limit, Sequence::new(alloc))
+        TurnBook::new_in(alloc, deal, policy, Limit::new(limit), Sequence::new(alloc))
     }
 
     /// As `new`, in the memory of a trace that nobody needs any more. Where that is too small, or
@@ -73,16 +73,15 @@ impl<P: Policy> TurnBook<P> {
         alloc: Global,
         deal: Deal,
         policy: P,
-        limit: u32,
+        limit: Limit,
         spare: EventList,
     ) -> Result<TurnBook<P>, NoMemory>
-        requires some_steps { 1 ≤ limit }
-        requires few_steps { limit ≤ MAX_STEPS }
         requires stands { P.stands policy [] }
         requires speaks { SpeaksOf (P.plan policy) deal.threads }
         ensures made { IfOk result (λ book. book ≡ new_book deal limit (P.plan policy)) }
         ensures lawful { IfOk result IsLawful }
     {
+        let limit = limit.steps();
         let mut board = Board::new(alloc, &deal)?;
         let trace = cleared(spare, limit as usize)?;
         let next = board.pick(&policy);
@@ -196,9 +195,9 @@ impl<P: Policy> TurnBook<P> {
         }
     }
 
-    /// Posts for the thread that the book waits for, which takes its step at once where it may take
-    /// it now. As `post` and then `take`, in less time. It is nothing where that isn't so, or isn't
-    /// known without a look at others, and then nothing has changed.
+    /// As `post` and then `take`, in less time, for the thread that the book waits for. `None`
+    /// where the book doesn't wait for the thread by rank, where the step isn't the thread's to
+    /// take now, or where that takes a look at other threads; then nothing has changed.
     pub fn post_and_take(&mut self, thread: u32, post: Post) -> Option<i64>
         requires thread { thread < self.old.deal.threads }
         requires away { standing_of self.old thread ≡ Standing.Away }
@@ -346,7 +345,7 @@ impl<P: Policy> TurnBook<P> {
     }
 }
 
-/// An empty list in the memory of another one, with room for so many items.
+/// An empty list in the memory of another one, with room for `count` items.
 fn cleared(spare: EventList, room: usize) -> Result<Vec<Event>, NoMemory>
     ensures items { IfOk result (λ items. items.items ≡ []) }
     ensures room { IfOk result (λ items. room ≤ vec_capacity items) }

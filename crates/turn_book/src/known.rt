@@ -13,7 +13,7 @@ ghost use Rattle.turn_book.specs.Told.{standing_by};
 ghost use Rattle.turn_book.specs.Board.{ArePostsInRange, ask_of_post};
 ghost use Rattle.turn_book.specs.Board.{concerns, waits_otherwise, waits_otherwise_ask, AreWaiters};
 ghost use Rattle.turn_book.specs.Board.{next_posts_of, joins_ask, locks, locks_ask, AreLockers};
-ghost use Rattle.turn_book.specs.Board.{lockers_at, LockOne, AreKnown, IsFresh, IsStale};
+ghost use Rattle.turn_book.specs.Board.{lockers_at, LockOne, AreKnownChances, IsFresh, IsStale};
 ghost use Rattle.turn_book.specs.Board.{WereChances};
 ghost use Rattle.sync_store.specs.declared.touched.Touched.{Touched};
 ghost use Rattle.pct_ask.specs.declared.limits.TheConstants.{MAX_THREADS, MAX_OBJECTS};
@@ -233,7 +233,7 @@ pub fn look_again(
         → IsFresh stale (ask_of_post (next_posts_of posts.now u))
         → concerns thread touched u (next_posts_of posts.now u) ≡ false
         → chance_of known.old u ≡ chance store.now (next_posts_of posts.now) u)
-        → AreKnown store.now posts.now stale known.new }
+        → AreKnownChances store.now posts.now stale known.new }
     ensures opens { (earlier : List Chance)
         → WereChances store.now posts.now thread touched waiters known.old earlier
         → OpensOnly thread result earlier
@@ -302,7 +302,7 @@ pub fn look_at_stale(
     requires standings { standings.now ≡ map standing_by posts.now }
     requires lockers { AreLockers posts.now lockers.now }
     requires as_many { length known.old ≡ store.now.threads }
-    requires known { AreKnown store.now posts.now stale known.old }
+    requires known { AreKnownChances store.now posts.now stale known.old }
     ensures { known.new ≡ chances store.now.threads store.now (next_posts_of posts.now) }
 {
     let mut left = stale;

@@ -16,7 +16,7 @@ use Rattle.atomic_table.proofs.Lists.{at_set, set_here, set_else, set_again, exc
 use Rattle.pct_ask.specs.declared.Deal.{Deal}
 use Rattle.turn_book.specs.Told.{BookState, SameMaking, IsLawful, Within}
 use Rattle.turn_lock.specs.Seen.{SameOf, ObeysPlan}
-use Rattle.turn_lock.specs.Slots.{Slot, Board, NotesBelow}
+use Rattle.turn_lock.specs.Slots.{Slot, NotedWords, NotesBelow}
 use Rattle.turn_lock.specs.Rule.{LockState, HasFlag, Serves, Ties, HoldsLock, Holder, KeepsRule}
 use Rattle.turn_lock.specs.Rule.{first_view}
 use Rattle.turn_lock.specs.Plays.{SeatWithSlots, with_lock, turned_away, with_book, Grabs, Unlocks}
@@ -362,7 +362,7 @@ only : (b : BookState) (j : ℕ) (u : View) → get_elem? (first_view b ∷ []) 
 only b zero u e = (refl, some-injective (first_view b) u e)
 only b (suc j) u e = absurd (some-ne-none u (sym e))
 
-pub starts : (b : BookState) (board : Board) → IsLawful b → NotesBelow b.deal.threads board
+pub starts : (b : BookState) (board : NotedWords) → IsLawful b → NotesBelow b.deal.threads board
     → KeepsRule b (opening (replicate (b.deal.threads + 1) 0)
     (record { book = b; board = board } ∷ []) (first_view b))
 starts b board lawful notes =
@@ -442,7 +442,7 @@ closed made id v words homes last live idle all f is =
       own = λ t below. tied.own t (all t (omega arith));
     }
 
-pub begins : (about : Slot) (words : List ℕ) (items : List Slot) (b : BookState) (board : Board)
+pub begins : (about : Slot) (words : List ℕ) (items : List Slot) (b : BookState) (board : NotedWords)
     → about ≡ record { book = b; board = board } → words ≡ replicate (b.deal.threads + 1) 0
     → items ≡ record { book = b; board = board } ∷ [] → IsLawful b → NotesBelow b.deal.threads board
     → KeepsRule about.book (opening words items (first_view about.book))

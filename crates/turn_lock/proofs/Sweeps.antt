@@ -7,7 +7,7 @@ use Rattle.pct_ask.specs.declared.ask.Post.{Post}
 use Rattle.pct_ask.specs.declared.event.Standing.TheVariants as standings
 use Rattle.turn_book.specs.Told.{BookState, IsLawful, standing_of}
 use Rattle.turn_lock.specs.Seen.{owes_of}
-use Rattle.turn_lock.specs.Slots.{Slot, Board, NotesBelow, word_noted}
+use Rattle.turn_lock.specs.Slots.{Slot, NotedWords, NotesBelow, word_noted}
 use Rattle.turn_lock.specs.Rule.{HasFlag}
 use Rattle.turn_lock.specs.Turns.{Row, TurnsTo, TellsEnd}
 use Rattle.turn_lock.specs.Briefs.{InBrief, brief, settles}
@@ -21,7 +21,7 @@ use Rattle.turn_lock.specs.declared.work.Work.{Work}
 use Rattle.turn_lock.proofs.laws.Growth.{grew-turn}
 use Rattle.turn_lock.proofs.laws.Standings.{away, away-owes}
 
-pub noted-is : (threads : ℕ) (board : Board) (t : ℕ) (noted : Option ℕ) → noted ≡ word_noted board t
+pub noted-is : (threads : ℕ) (board : NotedWords) (t : ℕ) (noted : Option ℕ) → noted ≡ word_noted board t
     → NotesBelow threads board → IfSome noted
     (λ word. (word_noted board t ≡ Some word) × (word < threads))
 noted-is threads board t None is notes = tt

@@ -4,20 +4,20 @@ use Rattle.turn_book.specs.Told.{BookState}
 use Rattle.pct_ask.specs.declared.limits.TheConstants.{MAX_THREADS}
 
 -- for each thread, the word that was noted for it last
-abbrev pub Board : Type 0
-Board = List (Option ℕ)
+abbrev pub NotedWords : Type 0
+NotedWords = List (Option ℕ)
 
 -- what a call takes with the lock: the book of turns, and the wait board
 pub record Slot : Type 0 where
   pub book : BookState
-  pub board : Board
+  pub board : NotedWords
 
 -- the word that is noted for a thread
-abbrev pub word_noted : Board → ℕ → Option ℕ
+abbrev pub word_noted : NotedWords → ℕ → Option ℕ
 word_noted board t = slice_index_or board t None
 
 -- every word on the board is a thread's
-abbrev pub NotesBelow : ℕ → Board → Type 0
+abbrev pub NotesBelow : ℕ → NotedWords → Type 0
 NotesBelow threads board = (t word : ℕ) → word_noted board t ≡ Some word → word < threads
 
 -- a book, and nothing noted

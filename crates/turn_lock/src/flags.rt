@@ -6,7 +6,7 @@ ghost use Rattle.pct_ask.specs.declared.limits.TheConstants.{MAX_THREADS};
 
 use pct_ask::MAX_THREADS;
 
-/// The first so many threads.
+/// The first `threads` threads.
 pub fn first_threads(threads: u32) -> [bool; MAX_THREADS]
     requires { threads ≤ MAX_THREADS }
     ensures first { result ≡ first_threads threads }

@@ -61,11 +61,11 @@ impl Which for Brand {
 }
 
 /// A thread is split off.
-pub struct Part<W: Which> {
+pub struct SplitOff<W: Which> {
     of: PhantomData<W>,
 }
 
-impl<W: Which> Split<View> for Part<W> {
+impl<W: Which> Split<View> for SplitOff<W> {
     ghost left = { λ v. seat_without v W.thread };
 
     ghost right = { λ v. seat_of_one v W.thread };

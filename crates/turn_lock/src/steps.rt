@@ -14,7 +14,7 @@ ghost use mathlib.Core.Option.{none};
 use crate::brief::Brief;
 use crate::held::TurnLock;
 use crate::keep::Keep;
-use crate::rule::{Grab, Look, Mark, Part, TableSeat, Unlock, Which};
+use crate::rule::{Grab, Look, Mark, SplitOff, TableSeat, Unlock, Which};
 use crate::work::{Wakes, Work};
 use pct_ask::{MAX_THREADS, Post};
 use policy_pick::Policy;
@@ -140,7 +140,7 @@ impl<P: Policy> TurnLock<P> {
         }
     }
 
-    /// Marks the turn words of the first so many threads.
+    /// Marks the turn words of the first `threads` threads.
     fn mark_all(&self, seat: &mut TableSeat<P>, threads: u32)
         requires of { seat.old.table_id ≡ self.now.table.shared.table_id }
         requires threads { threads ≤ (first_book self.now).deal.threads }
@@ -177,7 +177,7 @@ impl<P: Policy> TurnLock<P> {
         ensures left { seat.new.me ≡ (seat_without seat.old.me.0 thread, []) }
         ensures right { result.me ≡ (seat_of_one seat.old.me.0 thread, []) }
     {
-        self.table.shared.split_seat::<Part<W>>(seat)
+        self.table.shared.split_seat::<SplitOff<W>>(seat)
     }
 
     /// A load of the lock word, which tells what the rule says of the seat's last join.

@@ -9,7 +9,7 @@ pub enum Wakes {
     Nobody,
     /// The word of the thread whose turn it is.
     One { word: u32 },
-    /// The run is over: the words of the first so many threads, among them each that was noted.
+    /// The run is over: the words of the first `threads` threads, among them each that was noted.
     All { threads: u32 },
 }
 

@@ -20,7 +20,7 @@ use Rattle.worker_run.specs.declared.played.Played.{Played}
 use Rattle.worker_run.specs.declared.batch.Test.{Test}
 use Rattle.worker_run.specs.declared.batch.RunningTest.{RunningTest}
 use Rattle.worker_run.specs.declared.batch.Share.{Share}
-use Rattle.worker_run.proofs.Follows.{points-run, events-run}
+use Rattle.worker_run.proofs.Follows.{points-run, moments-run}
 use Rattle.worker_run.proofs.Plays.{here-range, here-unposted, here-serves, here-within}
 use Rattle.worker_run.proofs.Plays.{first-share}
 use Rattle.worker_run.proofs.Plays.{first-owe}
@@ -144,6 +144,6 @@ module _ {P : Type 0} {policy : Ghosts P} {B : Type 0} (pending : B → Pending)
             λ order points e. points-run test.deal bodies order points test.limit played.events
             played.outcome (subst S e asked.speaks) (subst W e whole);
         by_moments =
-            λ order moments e. events-run test.deal bodies order moments test.limit played.events
+            λ order moments e. moments-run test.deal bodies order moments test.limit played.events
             played.outcome (subst S e asked.speaks) (subst W e whole);
       }

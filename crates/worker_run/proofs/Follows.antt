@@ -11,11 +11,11 @@ use Rattle.pct_ask.specs.declared.verdict.Outcome.{Outcome}
 use Rattle.pct_ask.specs.declared.verdict.Outcome.TheVariants.{Verdict as Ends}
 use Rattle.pct_ask.specs.Bodies.{Pending}
 use Rattle.rank_now.specs.declared.moment.Moment.{Moment}
-use Rattle.rank_now.specs.Rank.{rank, rank_by_events}
+use Rattle.rank_now.specs.Rank.{rank, rank_by_moments}
 use Rattle.sync_store.specs.Store.{first_store}
 use Rattle.sync_store.specs.World.{Source, World, world_after}
 use Rattle.policy_pick.specs.declared.chance.Pick.TheVariants.{Thread}
-use Rattle.policy_pick.specs.Plan.{Plan, ByPoints, ByEvents, SpeaksOf}
+use Rattle.policy_pick.specs.Plan.{Plan, ByPoints, ByMoments, SpeaksOf}
 use Rattle.turn_book.specs.Posts.{schedule_of}
 use Rattle.turn_book.specs.Chances.{rest_verdict}
 use Rattle.turn_book.specs.Obeys.{next_posts_in, choice_in, outcome_by_pick, outcome_by}
@@ -174,12 +174,12 @@ points-run deal bodies order points limit events outcome speaks played =
     (λ schedule world. points-pick deal bodies schedule world order points speaks)
 
 -- With moments in the place of change points they are the directed run.
-pub events-run : (deal : Deal) (bodies : List Pending) (order : List ℕ) (moments : List Moment)
+pub moments-run : (deal : Deal) (bodies : List Pending) (order : List ℕ) (moments : List Moment)
     (limit : ℕ) (events : List Event) (outcome : Outcome)
-    → SpeaksOf (ByEvents order moments) deal.threads
-    → IsPlayed (ByEvents order moments) deal bodies limit events outcome
+    → SpeaksOf (ByMoments order moments) deal.threads
+    → IsPlayed (ByMoments order moments) deal bodies limit events outcome
     → IsRun (directed_run deal bodies order moments limit) events outcome
-events-run deal bodies order moments limit events outcome speaks played =
-    whole-run (ByEvents order moments) deal bodies (rank_by_events order moments) limit events
+moments-run deal bodies order moments limit events outcome speaks played =
+    whole-run (ByMoments order moments) deal bodies (rank_by_moments order moments) limit events
     outcome played (λ schedule world.
     events-pick deal bodies schedule world order moments speaks)

@@ -17,7 +17,7 @@ use Rattle.sync_store.specs.Store.{first_store}
 use Rattle.sync_store.specs.Enabled.{enabled}
 use Rattle.sync_store.specs.World.{World, has_ended, answers_of, world_after}
 use Rattle.rank_now.specs.declared.moment.Moment.{Moment}
-use Rattle.rank_now.specs.Rank.{rank, rank_by_events}
+use Rattle.rank_now.specs.Rank.{rank, rank_by_moments}
 use Rattle.turn_book.specs.Chances.{threads_below, rest_verdict}
 use Rattle.turn_book.specs.Obeys.{next_posts_in}
 use Rattle.worker_run.specs.Bodies.{source_of_bodies}
@@ -110,5 +110,5 @@ run deal bodies order points limit =
 -- the same with moments in the place of change points
 abbrev pub directed_run : Deal → List Pending → List ℕ → List Moment → ℕ → Option Run
 directed_run deal bodies order moments limit =
-    run_from (record { deal = deal; bodies = bodies; rank_after = rank_by_events order moments })
+    run_from (record { deal = deal; bodies = bodies; rank_after = rank_by_moments order moments })
     limit []

@@ -4,7 +4,7 @@ use Rattle.pct_ask.specs.declared.Deal.{Deal}
 use Rattle.pct_ask.specs.Objects.{sizes_of_deal}
 use Rattle.pct_ask.specs.Bodies.{Pending, AreInRange}
 use Rattle.rank_now.specs.declared.moment.Moment.{Moment}
-use Rattle.policy_pick.specs.Plan.{Plan, SpeaksOf, ByPoints, ByEvents}
+use Rattle.policy_pick.specs.Plan.{Plan, SpeaksOf, ByPoints, ByMoments}
 use Rattle.policy_pick.specs.declared.policy.Policy.{Ghosts}
 use Rattle.turn_book.specs.Told.{BookState, new_book}
 use Rattle.turn_lock.specs.Rule.{first_view}
@@ -27,7 +27,7 @@ pub record IsRunBy (plan : Plan) (deal : Deal) (bodies : List Pending) (limit : 
   pub played : IsPlayed plan deal bodies limit ended.events ended.outcome
   pub by_points : (order points : List ℕ) → plan ≡ ByPoints order points
       → IsRun (run deal bodies order points limit) ended.events ended.outcome
-  pub by_moments : (order : List ℕ) (moments : List Moment) → plan ≡ ByEvents order moments
+  pub by_moments : (order : List ℕ) (moments : List Moment) → plan ≡ ByMoments order moments
       → IsRun (directed_run deal bodies order moments limit) ended.events ended.outcome
 
 module _ {P : Type 0} {B : Type 0} (pending : B → Pending) (plan : P → Plan) where
@@ -76,7 +76,7 @@ pub record IsNew (book : BookState) : Type 0 where
   pub speaks : SpeaksOf book.plan book.deal.threads
 
 -- new runners of bodies, one for each thread, which name only what there is
-pub record AreNew {B : Type 0} (pending : B → Pending) (deal : Deal)
+pub record AreNewRunners {B : Type 0} (pending : B → Pending) (deal : Deal)
     (runners : List (Option (Runner B))) : Type 0 where
   pub bodies : List B
   pub are : runners ≡ first_runners bodies

@@ -2,7 +2,7 @@
 ghost use Rattle.std.specs.Prelude.{◌≡◌, List, Some, map};
 ghost use Rattle.turn_book.specs.Told.{SameMaking};
 ghost use Rattle.worker_run.specs.Served.{first_runners};
-ghost use Rattle.worker_run.specs.Tests.{IsRunBy, IsNew, AreNew};
+ghost use Rattle.worker_run.specs.Tests.{IsRunBy, IsNew, AreNewRunners};
 
 use crate::alone::serve_alone;
 use crate::runner::Runner;
@@ -22,7 +22,7 @@ pub fn serve_by_caller<R: Wait, P: Policy, B: Body, G: Gate>(
     gate: &G,
 ) -> Outcome
     requires book { IsNew book.old }
-    requires runners { AreNew B.pending book.old.deal runners.old }
+    requires runners { AreNewRunners B.pending book.old.deal runners.old }
     ensures making { SameMaking book.old book.new }
     ensures outcome { book.new.outcome ≡ Some result }
     ensures run { (bodies : List B) → runners.old ≡ first_runners bodies

@@ -5,7 +5,7 @@ ghost use Rattle.pct_ask.specs.declared.verdict.Outcome.{Outcome};
 ghost use Rattle.pct_ask.specs.declared.verdict.Verdict.{Verdict};
 ghost use Rattle.pct_ask.specs.Objects.{sizes_of_deal};
 ghost use Rattle.pct_ask.specs.Bodies.{AreInRange};
-ghost use Rattle.policy_pick.specs.Plan.{ByPoints, ByEvents};
+ghost use Rattle.policy_pick.specs.Plan.{ByPoints, ByMoments};
 ghost use Rattle.worker_run.specs.Run.{run, directed_run};
 ghost use Rattle.worker_run.specs.Played.{IsPlayed};
 
@@ -99,7 +99,7 @@ pub fn run_by_moments<R: Threads + Wait + Sync, B: Body, G: Gate>(
         priorities.now.moments.now limit ≡ Some (whole.events, whole.verdict)) }
     // The same, as the run that is played by these priorities.
     ensures played { IfOk result (λ whole.
-        IsPlayed (ByEvents priorities.now.order.now priorities.now.moments.now) deal
+        IsPlayed (ByMoments priorities.now.order.now priorities.now.moments.now) deal
         (map B.pending bodies.items) limit whole.events (Outcome.Verdict whole.verdict)) }
 {
     let policy = DirectedPolicy::of_priorities(alloc, priorities, None)?;

@@ -20,13 +20,13 @@
 //!   `played`, `run`, `directed`; `run_here`: `played`, `run`, `directed` (`IsPlayed`, `run`,
 //!   `next_thread`, `rank`, `cut_at`); with the verdict `run_by_points`: `run`, `played`;
 //!   `run_by_moments`: `directed`, `played`; `Played::into_whole`: `events`, `verdict`; its number
-//!   of steps `step_count`, its clause; its verdict `verdict_of`, its clause.
+//!   of steps `count_steps`, its clause; its verdict `verdict_of`, its clause.
 //! - `run_many` answers as many runs as tests, each what `run_threads` promises of its test:
 //!   `run_many`: `runs` (`Each`, `IsRunOf`). A test by an order and points: `Test::by_points`.
 //! - Batch after batch, in memory that is used again: by workers `run_many_by`: `runs`, `caller`;
 //!   by the caller over a book of turns and runners `serve_by_caller`: `run`, `outcome`, `making`
-//!   (`IsRunBy`, `AreNew`), a runner made by `Runner::new`. None depends on what `Serving` holds, of
-//!   which clauses say only who serves: `Serving::new`; `Serving::is_by_caller`;
+//!   (`IsRunBy`, `AreNewRunners`), a runner made by `Runner::new`. None depends on what `Serving`
+//!   holds, of which clauses say only who serves: `Serving::new`; `Serving::is_by_caller`;
 //!   `Serving::leave_to_caller`; `Serving::next_trace`; `Serving::take_back`;
 //!   `Serving::take_all_back`.
 //! - After Ok of `run_on` the lent seat serves all threads again and has seen that run with its
@@ -56,7 +56,7 @@ pub use by_caller::serve_by_caller;
 pub use by_order::{WholeRun, run_by_moments, run_by_points};
 pub use lent::run_on;
 pub use many::{RUNS_AT_ONCE, run_many, run_many_by};
-pub use played::{Played, step_count, verdict_of};
+pub use played::{Played, count_steps, verdict_of};
 pub use run::{run_here, run_threads};
 pub use runner::Runner;
 pub use serving::{Serve, Serving};

@@ -12,7 +12,7 @@ pub struct Played {
 }
 
 /// How many steps a run of at most `limit` steps has.
-pub fn step_count(events: &[Event], limit: Limit) -> u32
+pub fn count_steps(events: &[Event], limit: Limit) -> u32
     requires within { length events.now ≤ limit }
     ensures { result ≡ length events.now }
 {

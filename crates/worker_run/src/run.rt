@@ -3,7 +3,7 @@ ghost use Rattle.pct_ask.specs.declared.verdict.Outcome.{Outcome};
 ghost use Rattle.pct_ask.specs.Objects.{sizes_of_deal};
 ghost use Rattle.pct_ask.specs.Bodies.{Pending, AreInRange};
 ghost use Rattle.rank_now.specs.declared.moment.Moment.{Moment};
-ghost use Rattle.policy_pick.specs.Plan.{SpeaksOf, ByPoints, ByEvents};
+ghost use Rattle.policy_pick.specs.Plan.{SpeaksOf, ByPoints, ByMoments};
 ghost use Rattle.turn_book.specs.Told.{new_book};
 ghost use Rattle.turn_lock.specs.Rule.{first_view};
 ghost use Rattle.turn_lock.specs.Calls.{first_book, ServesAll};
@@ -24,22 +24,6 @@ use std::thread::Threads;
 use turn_book::TurnBook;
 use turn_lock::{Seat, TurnLock};
 
-/// The book of a run that has at most so many steps, before the first of them. They stand in the
-/// memory of a trace that nobody needs any more.
-fn book_of<P: Policy>(
-    alloc: Global,
-    deal: Deal,
-    policy: P,
-    limit: Limit,
-    trace: EventList,
-) -> Result<TurnBook<P>, NoMemory>
-    requires stands { P.stands policy [] }
-    requires speaks { SpeaksOf (P.plan policy) deal.threads }
-    ensures made { IfOk result (λ book. book ≡ new_book deal limit (P.plan policy)) }
-{
-    TurnBook::new_in(alloc, deal, policy, limit.steps(), trace)
-}
-
 /// A lock for a run, and its first seat. The run's steps stand in the memory of a trace that nobody
 /// needs any more.
 pub fn new_lock<P: Policy>(
@@ -55,7 +39,7 @@ pub fn new_lock<P: Policy>(
     ensures of { IfOk result (λ r. HasSeat r.0 r.1) }
     ensures view { IfOk result (λ r. view r.1 ≡ first_view (new_book deal limit (P.plan policy))) }
 {
-    let book = book_of(alloc, deal, policy, limit, trace)?;
+    let book = TurnBook::new_in(alloc, deal, policy, limit, trace)?;
     TurnLock::new(alloc, book)
 }
 
@@ -108,7 +92,7 @@ pub fn run_here<R: Wait, P: Policy, B: Body, G: Gate>(
         → P.plan policy ≡ ByPoints order points → IfOk result (λ played. IsRun (run deal
         (map B.pending bodies.items) order points limit) played.events played.outcome) }
     ensures directed { (order : List ℕ) (moments : List Moment)
-        → P.plan policy ≡ ByEvents order moments → IfOk result (λ played. IsRun (directed_run deal
+        → P.plan policy ≡ ByMoments order moments → IfOk result (λ played. IsRun (directed_run deal
         (map B.pending bodies.items) order moments limit) played.events played.outcome) }
 {
     let mut runners = runners_of(alloc, bodies)?;
@@ -139,7 +123,7 @@ pub fn run_threads<R: Threads + Wait + Sync, P: Policy, B: Body, G: Gate>(
         → P.plan policy ≡ ByPoints order points → IfOk result (λ played. IsRun (run deal
         (map B.pending bodies.items) order points limit) played.events played.outcome) }
     ensures directed { (order : List ℕ) (moments : List Moment)
-        → P.plan policy ≡ ByEvents order moments → IfOk result (λ played. IsRun (directed_run deal
+        → P.plan policy ≡ ByMoments order moments → IfOk result (λ played. IsRun (directed_run deal
         (map B.pending bodies.items) order moments limit) played.events played.outcome) }
 {
     let limit = Limit::new(limit);

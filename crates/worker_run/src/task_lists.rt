@@ -13,7 +13,7 @@ use policy_pick::Policy;
 use std::alloc::{AllocError as NoMemory, Global};
 use std::sync::Wait;
 
-/// An empty list for each of so many threads, with memory for its task of each of so many tests.
+/// An empty list for each thread, with memory for its task of each test.
 pub fn empty_lists<P: Policy, B: Body>(
     alloc: Global,
     tests: usize,

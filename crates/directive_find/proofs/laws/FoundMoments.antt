@@ -17,7 +17,7 @@ use Rattle.rank_now.specs.declared.moment.Moment.{Moment}
 use Rattle.rank_now.specs.Order.{IsOrder}
 use Rattle.rank_now.specs.Positions.{greatest_where, passes_at, last_position}
 use Rattle.rank_now.specs.Rank.{index_of_point, own_steps, is_moment, index_of_moment, rank}
-use Rattle.rank_now.specs.Rank.{rank_by_events}
+use Rattle.rank_now.specs.Rank.{rank_by_moments}
 use Rattle.rank_now.proofs.laws.Positions.{greatest-le, passes_at-read}
 use Rattle.turn_book.specs.Posts.{schedule_of}
 use Rattle.worker_run.specs.Run.{run, directed_run}
@@ -302,7 +302,7 @@ pub found-run : (deal : Deal) (bodies : List Pending) (order points : List ℕ) 
     ≡ Some (events, verdict)
 found-run deal bodies order points limit events verdict ordered threads is =
     let moments = moments_of (schedule_of events) points in
-    same-from deal bodies (rank order points) (rank_by_events order moments) limit [] events verdict
+    same-from deal bodies (rank order points) (rank_by_moments order moments) limit [] events verdict
     (λ taken more t cut a b p q.
     rank_by-alike (index_of_point points) (index_of_moment moments taken) (length points)
     (length moments) order taken ordered

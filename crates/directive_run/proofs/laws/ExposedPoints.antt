@@ -15,7 +15,7 @@ use Rattle.pct_ask.specs.Bodies.{Pending}
 use Rattle.rank_now.specs.declared.moment.Moment.{Moment}
 use Rattle.rank_now.specs.Positions.{greatest_where, passes_at}
 use Rattle.rank_now.specs.Rank.{rank_by, index_of_point, is_moment, index_of_moment, rank}
-use Rattle.rank_now.specs.Rank.{rank_by_events}
+use Rattle.rank_now.specs.Rank.{rank_by_moments}
 use Rattle.rank_now.proofs.laws.Positions.{greatest-agree, greatest-passes, greatest-le}
 use Rattle.rank_now.proofs.laws.Positions.{passes_at-agree, rank_by-agree}
 use Rattle.turn_book.specs.Posts.{schedule_of}
@@ -113,7 +113,7 @@ module _ (order : List ℕ) (moments : List Moment) (schedule : List ℕ) (steps
         (is_moment taken step) (marks step low high) moments k)
 
     pub exposed-rank : (thread : ℕ) → rank order points taken thread
-        ≡ rank_by_events order moments taken thread
+        ≡ rank_by_moments order moments taken thread
     exposed-rank thread =
         rank_by-agree (index_of_moment moments taken) (index_of_point points) (length points) order
         taken index-same thread
@@ -127,7 +127,7 @@ pub exposed-run : (deal : Deal) (bodies : List Pending) (order : List ℕ) (mome
     → run deal bodies order (points_of (schedule_of events) steps moments) limit
     ≡ Some (events, verdict)
 exposed-run deal bodies order moments limit steps events verdict room is =
-    same-from deal bodies (rank_by_events order moments)
+    same-from deal bodies (rank_by_moments order moments)
     (rank order (points_of (schedule_of events) steps moments)) limit [] events verdict
     (λ taken more t cut a b p q. λ i.
     leb (sym (exposed-rank order moments (schedule_of events) steps room taken more t cut a) i)

@@ -17,7 +17,8 @@ use Rattle.choices.specs.Points.{points_of}
 use Rattle.directive_run.specs.Exposing.{Exposes}
 use Rattle.directive_run.specs.Guarantees.{IsLed, Guarantees}
 use Rattle.choices.specs.Orders.{low_orders}
-use Rattle.directive_run.specs.Certifying.{IsPointed, AreRows, IsCertified, IsFirstOther, IsRefuted}
+use Rattle.directive_run.specs.Certifying.{IsPointed, AreOrderRows, IsCertified, IsFirstOther}
+use Rattle.directive_run.specs.Certifying.{IsRefuted}
 use Rattle.directive_run.specs.Certifying.{IsTooLongUnder, Certifies, IsYes}
 use Rattle.directive_run.specs.declared.answers.CertifyRow.{CertifyRow}
 use Rattle.directive_run.specs.declared.answers.Exposed.{Exposed}
@@ -141,8 +142,8 @@ module _ (deal : Deal) (bodies : List Pending) (directive : Directive) (steps li
       ∙ sym two.points_are)
 
   rows-once : (orders : List (List ℕ)) (rows other : List CertifyRow)
-      → AreRows deal bodies directive steps limit orders rows
-      → AreRows deal bodies directive steps limit orders other → rows ≡ other
+      → AreOrderRows deal bodies directive steps limit orders rows
+      → AreOrderRows deal bodies directive steps limit orders other → rows ≡ other
   rows-once [] [] [] one two = refl
   rows-once [] [] (r ∷ rs) one two = absurd two
   rows-once [] (r ∷ rs) other one two = absurd one

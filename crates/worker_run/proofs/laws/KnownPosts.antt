@@ -11,7 +11,7 @@ use Rattle.pct_ask.specs.declared.ask.Post.{Post}
 use Rattle.pct_ask.specs.declared.Deal.{Deal}
 use Rattle.pct_ask.specs.Bodies.{Pending, pending_of}
 use Rattle.rank_now.specs.declared.moment.Moment.{Moment}
-use Rattle.rank_now.specs.Rank.{rank, rank_by_events, ranks, ranks_by_events}
+use Rattle.rank_now.specs.Rank.{rank, rank_by_moments, ranks, ranks_by_moments}
 use Rattle.sync_store.specs.declared.ready.Ready.TheVariants.{Yes, No}
 use Rattle.sync_store.specs.Store.{StoreState}
 use Rattle.sync_store.specs.Enabled.{enabled}
@@ -22,7 +22,7 @@ use Rattle.policy_pick.specs.declared.chance.Chance.TheVariants.{Away, Ready, Bl
 use Rattle.policy_pick.specs.declared.chance.Chance.TheVariants.{Ended}
 use Rattle.policy_pick.specs.declared.chance.Pick.{Pick}
 use Rattle.policy_pick.specs.declared.chance.Pick.TheVariants.{Thread, Waits, Nobody}
-use Rattle.policy_pick.specs.Plan.{Plan, ByPoints, ByEvents, SpeaksOf}
+use Rattle.policy_pick.specs.Plan.{Plan, ByPoints, ByMoments, SpeaksOf}
 use Rattle.policy_pick.specs.Choice.{choice, choice_by_rank, chance_of, is_open, is_known}
 use Rattle.policy_pick.specs.Choice.{is_highest, pick_at, threads_of_chances, HasAwayTarget}
 use Rattle.policy_pick.specs.Choice.{TargetsAreAway, IsSoundPick}
@@ -212,17 +212,17 @@ module _ (deal : Deal) (bodies : List Pending) (schedule : List ℕ) (world : Wo
 
   -- and so is that by moments
   pub events-pick : (order : List ℕ) (moments : List Moment)
-      → SpeaksOf (ByEvents order moments) deal.threads
-      → choice_in (ByEvents order moments) deal.threads (source_of_bodies bodies) schedule world
+      → SpeaksOf (ByMoments order moments) deal.threads
+      → choice_in (ByMoments order moments) deal.threads (source_of_bodies bodies) schedule world
       ≡ pick_of (next_thread (record {
         deal = deal;
         bodies = bodies;
-        rank_after = rank_by_events order moments;
+        rank_after = rank_by_moments order moments;
       }) schedule world)
   events-pick order moments speaks =
-      rank-picks world.store posts_in deal.threads (ranks_by_events order moments schedule)
-      (rank_by_events order moments schedule)
-      (λ t within. get_or-map-range_with_len (rank_by_events order moments schedule) 0
+      rank-picks world.store posts_in deal.threads (ranks_by_moments order moments schedule)
+      (rank_by_moments order moments schedule)
+      (λ t within. get_or-map-range_with_len (rank_by_moments order moments schedule) 0
       (length order)
       t t 0 (omega (arith, speaks)) (omega arith))
 

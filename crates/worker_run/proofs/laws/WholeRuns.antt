@@ -25,7 +25,7 @@ use Rattle.policy_pick.specs.declared.chance.Chance.{Chance}
 use Rattle.policy_pick.specs.declared.chance.Chance.TheVariants.{Ready as Goes, Ended}
 use Rattle.policy_pick.specs.declared.chance.Pick.{Pick}
 use Rattle.policy_pick.specs.declared.chance.Pick.TheVariants.{Thread, Waits, Nobody, Departs}
-use Rattle.policy_pick.specs.Plan.{Plan, ByPoints, ByEvents, SpeaksOf}
+use Rattle.policy_pick.specs.Plan.{Plan, ByPoints, ByMoments, SpeaksOf}
 use Rattle.policy_pick.specs.Choice.{chance_of}
 use Rattle.turn_book.specs.Chances.{is_unknown, is_ended, chance_by, chance_of_ask, chance, chances}
 use Rattle.turn_book.specs.Chances.{rest_verdict}
@@ -41,7 +41,7 @@ use Rattle.worker_run.specs.Bodies.{source_of_bodies}
 use Rattle.worker_run.specs.Run.{Run, run, directed_run}
 use Rattle.worker_run.specs.Played.{IsPlayed, IsRun}
 use Rattle.worker_run.proofs.laws.KnownPosts.{bodies-no-wait}
-use Rattle.worker_run.proofs.Follows.{points-run, events-run}
+use Rattle.worker_run.proofs.Follows.{points-run, moments-run}
 
 -- where nothing is settled, a thread goes on, and there is room
 record GoesOn (verdict : Option Verdict) (full : Bool) (pick : Pick) : Type 0 where
@@ -229,20 +229,20 @@ run-played deal bodies order points limit events verdict speaks is =
 
 -- The same of the directed run.
 pub directed-is-there : (deal : Deal) (bodies : List Pending) (order : List ℕ)
-    (moments : List Moment) (limit : ℕ) → SpeaksOf (ByEvents order moments) deal.threads
+    (moments : List Moment) (limit : ℕ) → SpeaksOf (ByMoments order moments) deal.threads
     → (whole : Run) × (directed_run deal bodies order moments limit ≡ Some whole)
 directed-is-there deal bodies order moments limit speaks =
-    let r = has-run (ByEvents order moments) deal bodies limit speaks in
-    let is = events-run deal bodies order moments limit r.events r.outcome speaks r.played in
+    let r = has-run (ByMoments order moments) deal bodies limit speaks in
+    let is = moments-run deal bodies order moments limit r.events r.outcome speaks r.played in
     ((r.events, is.verdict), is.steps)
 
 pub directed-played : (deal : Deal) (bodies : List Pending) (order : List ℕ) (moments : List Moment)
     (limit : ℕ) (events : List Event) (verdict : Verdict)
-    → SpeaksOf (ByEvents order moments) deal.threads
+    → SpeaksOf (ByMoments order moments) deal.threads
     → directed_run deal bodies order moments limit ≡ Some (events, verdict)
-    → IsPlayed (ByEvents order moments) deal bodies limit events (Ends verdict)
+    → IsPlayed (ByMoments order moments) deal bodies limit events (Ends verdict)
 directed-played deal bodies order moments limit events verdict speaks is =
-    let r = has-run (ByEvents order moments) deal bodies limit speaks in
-    played-by (ByEvents order moments) deal bodies limit
+    let r = has-run (ByMoments order moments) deal bodies limit speaks in
+    played-by (ByMoments order moments) deal bodies limit
     (directed_run deal bodies order moments limit) events r.events verdict r.outcome is
-    (events-run deal bodies order moments limit r.events r.outcome speaks r.played) r.played
+    (moments-run deal bodies order moments limit r.events r.outcome speaks r.played) r.played

@@ -5,13 +5,13 @@ use Rattle.pct_ask.specs.Bodies.{Pending}
 use Rattle.script_code.specs.Listing.{listing}
 use Rattle.script_body.proofs.laws.ScriptBodies.{code_bodies}
 use Rattle.script_run.specs.Ready.{bodies_of_code}
-use Rattle.campaign.specs.Rows.{Setup, rows_of}
+use Rattle.campaign.specs.Rows.{CampaignSetup, rows_of}
 use Rattle.campaign.proofs.Rows.{no-rows, goes-on}
 use Rattle.campaign.proofs.seeds.campaign_by.Goals as goal
 
 pub run_batches-requires-clause-stands : goal.run_batches-requires-clause-stands
 run_batches-requires-clause-stands g c κs lives =
-    let setup : Setup = record {
+    let setup : CampaignSetup = record {
       deal = c.args.deal.now;
       bodies = bodies_of_code (listing c.args.code.now);
       depth = c.args.depth;
@@ -27,7 +27,7 @@ run_batches-requires-clause-stands g c κs lives =
 pub returns : goal.returns
 returns g c = λ script of.
     let code = listing c.args.code.now in
-    let setup : List Pending → Setup = λ bodies. record {
+    let setup : List Pending → CampaignSetup = λ bodies. record {
       deal = c.args.deal.now;
       bodies = bodies;
       depth = c.args.depth;

@@ -19,7 +19,7 @@ returns-then-is-clause-leaves g c =
     c.args.priorities.now.order.now
     es c.args.limit) (sym c.as_slice.ensures)
     ∙ c.in_ok-whole.ensures.code)
-    c.loop-place.invariant c.step_count-steps.result
+    c.loop-place.invariant c.count_steps-steps.result
     (omega (
       arith,
       ap length c.in_ok-rest.ensures,
@@ -27,7 +27,7 @@ returns-then-is-clause-leaves g c =
       c.args.priorities.now.few_moments,
     )) c.loop-place-test.true
     (c.is.ensures.0 c.if-is.true)
-    (c.step_count-steps.ensures ∙ ap length c.as_slice-then-is.ensures)
+    (c.count_steps-steps.ensures ∙ ap length c.as_slice-then-is.ensures)
 
 pub loop-place-preserved : goal.loop-place-preserved
 loop-place-preserved g c =

@@ -20,8 +20,8 @@ returns-then-many-most c = λ order is.
     let ran =
     ended-run (run_of_order setup order) made c.args.outcome.now verdict is.run
     c.verdict_of-verdict.ensures in
-    too-long setup.deal setup.bodies order all all setup.steps setup.limit c.step_count-many.result
-    made verdict refl ran c.step_count-many.ensures
+    too-long setup.deal setup.bodies order all all setup.steps setup.limit c.count_steps-many.result
+    made verdict refl ran c.count_steps-many.ensures
     (omega (arith, c.if-many-most.true, c.steps-most.ensures.number))
 
 pub returns-then-not-is : goal.returns-then-not-is
@@ -39,7 +39,7 @@ returns-then-not-is c = λ order is.
     cc in
     other setup.deal setup.bodies order all all setup.directive.verdict verdict setup.steps
     setup.limit made refl ran apart
-    (omega (arith, c.step_count-many.ensures, c.if-many-most.false, c.steps-most.ensures.number))
+    (omega (arith, c.count_steps-many.ensures, c.if-many-most.false, c.steps-most.ensures.number))
 
 pub returns : goal.returns
 returns c = λ order is.
@@ -53,7 +53,7 @@ returns c = λ order is.
     c.verdict_of-verdict.ensures in
     pointed setup.deal setup.bodies order all all setup.directive.verdict verdict setup.steps
     setup.limit made c.in_ok-points_of.field-0 refl ran (c.is.ensures.0 c.if-not-is.false)
-    (omega (arith, c.step_count-many.ensures, c.if-many-most.false, c.steps-most.ensures.number))
+    (omega (arith, c.count_steps-many.ensures, c.if-many-most.false, c.steps-most.ensures.number))
     (c.in_ok-points_of.ensures
     ∙ ap (λ s. points_of (schedule_of made) s moments) c.steps-most.ensures.number
     ∙ ap (points_of (schedule_of made) setup.steps) c.as_slice-moments.ensures)

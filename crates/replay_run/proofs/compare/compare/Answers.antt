@@ -1,7 +1,7 @@
 -- The lists part at the step behind those in which they agree.
 use Rattle.std.proofs.Common.{List, sym, ◌∙◌, subst}
 use Rattle.pct_ask.specs.declared.event.Event.{Event}
-use Rattle.replay_run.specs.Agreed.{IsAgreed}
+use Rattle.trace_text.specs.Agreed.{IsAgreed}
 use Rattle.replay_run.proofs.Parts.{differ_at, ends_before}
 use Rattle.replay_run.proofs.compare.compare.Goals as goal
 

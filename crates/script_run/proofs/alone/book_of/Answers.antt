@@ -7,6 +7,6 @@ pub returns : goal.returns
 returns g c =
     let common = g.T.Batch.common c.args.batch.now in
     set-first common (g.T.Batch.is_run c.args.batch.now c.args.place) c.in_ok-deal.deal
-    c.steps.result (g.T.Policy.Policy.plan c.in_ok-policy.policy) c.new_in.result
-    (c.in_ok-deal.ensures ∙ c.script.ensures.deal) (c.steps.ensures.number ∙ c.limit.ensures)
+    c.limit.result (g.T.Policy.Policy.plan c.in_ok-policy.policy) c.new_in.result
+    (c.in_ok-deal.ensures ∙ c.script.ensures.deal) c.limit.ensures
     c.in_ok-policy.ensures.plan c.new_in.ensures.made

@@ -34,7 +34,7 @@ add_copies-requires c =
             c.stands_for.ensures is.choice is.at
             ∙ ap (λ n. weight sweep.steps n is.choice.points)
             (c.max.ensures ∙ ap (λ n. max n 1)
-            (c.step_count-steps.ensures ∙ ap (λ (r : Run). length r.0) same))),
+            (c.count_steps-steps.ensures ∙ ap (λ (r : Run). length r.0) same))),
         sweep.few_choices,
       ),
     )
@@ -51,9 +51,9 @@ returns-clause-counted c =
     let rows = spread (often_in setup) setup 0 (take c.args.place (choices_of setup)) in
     run-counted setup here _ c.args.tally.now c.add_copies.new.tally
     (record { events = c.args.events.now; outcome = c.args.outcome.now }) _
-    c.stands_for.result is before c.from.ensures c.step_count-steps.ensures c.verdict_of.ensures
+    c.stands_for.result is before c.from.ensures c.count_steps-steps.ensures c.verdict_of.ensures
     (c.stands_for.ensures is.choice is.at
     ∙ ap (λ n. weight sweep.steps n is.choice.points)
-    (c.max.ensures ∙ ap (λ n. max n 1) c.step_count-steps.ensures))
+    (c.max.ensures ∙ ap (λ n. max n 1) c.count_steps-steps.ensures))
     (c.in_ok-add_copies.ensures rows before.counted) refl
-    (c.max-2.ensures ∙ ap (λ n. max c.args.reach.longest n) c.step_count-steps.ensures)
+    (c.max-2.ensures ∙ ap (λ n. max c.args.reach.longest n) c.count_steps-steps.ensures)

@@ -4,7 +4,7 @@ use Rattle.pct_ask.specs.declared.verdict.Outcome.{Outcome}
 use Rattle.pct_ask.specs.Bodies.{pending_of}
 use Rattle.policy_pick.specs.Plan.{Plan, SpeaksOf}
 use Rattle.worker_run.specs.Played.{IsPlayed}
-use Rattle.worker_run.proofs.Follows.{points-run, events-run}
+use Rattle.worker_run.proofs.Follows.{points-run, moments-run}
 use Rattle.worker_run.proofs.Plays.{caller-share, caller-owes, caller-played}
 use Rattle.worker_run.proofs.Plays.{as-many-bodies}
 use Rattle.worker_run.proofs.by_caller.serve_by_caller.Goals as goal
@@ -65,6 +65,6 @@ returns-clause-run g c = λ bodies are.
           λ order points is. points-run made.deal start order points made.limit events
           c.in-Some.outcome (subst Speaks is c.requires.book.speaks) (subst P is played);
       by_moments =
-          λ order moments is. events-run made.deal start order moments made.limit events
+          λ order moments is. moments-run made.deal start order moments made.limit events
           c.in-Some.outcome (subst Speaks is c.requires.book.speaks) (subst P is played);
     }

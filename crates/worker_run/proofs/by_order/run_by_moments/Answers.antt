@@ -1,6 +1,6 @@
 use Rattle.std.proofs.Common.{◌≡◌, ℕ, Some, map, subst}
-use Rattle.policy_pick.specs.Plan.{ByEvents}
-use Rattle.policy_pick.specs.Kept.{events_plan}
+use Rattle.policy_pick.specs.Plan.{ByMoments}
+use Rattle.policy_pick.specs.Kept.{moments_plan}
 use Rattle.worker_run.specs.Run.{directed_run}
 use Rattle.worker_run.specs.Played.{IsPlayed}
 use Rattle.worker_run.proofs.Wholes.{told-run, told-played}
@@ -34,10 +34,10 @@ returns-clause-directed g c =
 pub returns-clause-played : goal.returns-clause-played
 returns-clause-played g c =
     let start = map g.B.Body.pending c.args.bodies.items in
-    let L : ℕ → Type 0 = λ most. IsPlayed (events_plan c.in_ok-policy.policy) c.args.deal start most
+    let L : ℕ → Type 0 = λ most. IsPlayed (moments_plan c.in_ok-policy.policy) c.args.deal start most
     c.in_ok-played.played.events c.in_ok-played.played.outcome in
-    told-played (events_plan c.in_ok-policy.policy)
-    (ByEvents c.args.priorities.now.order.now c.args.priorities.now.moments.now)
+    told-played (moments_plan c.in_ok-policy.policy)
+    (ByMoments c.args.priorities.now.order.now c.args.priorities.now.moments.now)
     c.args.deal start c.args.limit c.in_ok-played.played.events c.into_whole.result.events
     c.in_ok-played.played.outcome c.into_whole.result.verdict
     c.in_ok-policy.ensures.plan c.into_whole.ensures.events c.into_whole.ensures.verdict

@@ -5,7 +5,7 @@ use Rattle.turn_lock.specs.Rule.{first_view}
 use Rattle.turn_lock.specs.Calls.{first_book}
 use Rattle.turn_lock.specs.Views.{view}
 use Rattle.worker_run.specs.Played.{IsPlayed}
-use Rattle.worker_run.proofs.Follows.{points-run, events-run}
+use Rattle.worker_run.proofs.Follows.{points-run, moments-run}
 use Rattle.worker_run.proofs.Plays.{here-played}
 use Rattle.worker_run.proofs.run.run_threads.Goals as goal
 
@@ -40,6 +40,6 @@ returns-clause-directed g c = λ order events is.
     let Speaks : Plan → Type 0 = λ p. SpeaksOf p c.args.deal.threads in
     let P : Plan → Type 0 = λ p. IsPlayed p c.args.deal start c.args.limit c.finish.result.events
     c.finish.result.outcome in
-    events-run c.args.deal start order events c.args.limit c.finish.result.events
+    moments-run c.args.deal start order events c.args.limit c.finish.result.events
     c.finish.result.outcome (subst Speaks is c.requires.speaks)
     (subst P is (returns-clause-played g c))

@@ -22,7 +22,7 @@ returns c =
     let seed = c.seed_at.result in
     let row : Row = record {
       seed = seed;
-      steps = c.step_count.result;
+      steps = c.count_steps.result;
       verdict = c.verdict_of.result;
     } in
     let is = subst (λ s. IsSeedRun setup s played) (sym c.seed_at.ensures)
@@ -34,5 +34,5 @@ returns c =
       room = pushed.capacity ∙ before.room;
       are = next-row setup campaign.first seed rows.items c.push_reserved.new.self.items row here
           before.are pushed.items
-          (run-row setup seed played row is refl c.step_count.ensures c.verdict_of.ensures);
+          (run-row setup seed played row is refl c.count_steps.ensures c.verdict_of.ensures);
     }

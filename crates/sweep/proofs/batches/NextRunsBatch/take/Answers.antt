@@ -1,7 +1,7 @@
 -- The next of the choices is counted.
 use Rattle.std.proofs.Common.{Some, sym, ap, subst, ◌∙◌, arith}
 use Rattle.std.proofs.lemmas.Option.{slice_get-get_or}
-use Rattle.sweep.specs.Batches.{setup_of_sweep, AreAbove}
+use Rattle.sweep.specs.Batches.{setup_of_sweep, HavePointAbove}
 use Rattle.sweep.proofs.Aheads.{next-ahead}
 use Rattle.sweep.proofs.batches.NextRunsBatch.take.Goals as goal
 
@@ -34,7 +34,7 @@ count_run-requires-clause-above c =
     let one = next-ahead setup next.before.longest from next.ahead.now.end c.args.place
     c.index-at.result.now next.ahead.now.places.items c.requires.place c.index-at.ensures
     before.ahead in
-    subst (λ n. AreAbove setup n from c.index-at.result.now) (sym before.same) one.above
+    subst (λ n. HavePointAbove setup n from c.index-at.result.now) (sym before.same) one.above
 
 pub count_run-requires-clause-run : goal.count_run-requires-clause-run
 count_run-requires-clause-run c =

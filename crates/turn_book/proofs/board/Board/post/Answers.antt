@@ -15,7 +15,7 @@ use Rattle.turn_book.proofs.Boards.{chance-at, others-kept, standings-set, targe
 use Rattle.turn_book.proofs.Boards.{board-set, front-taken}
 use Rattle.policy_pick.specs.Choice.{SameOthers}
 use Rattle.policy_pick.specs.declared.chance.Chance.{Chance}
-use Rattle.turn_book.specs.Board.{AreKnown, AreWaiters, IsBoard, IsFresh, chances_on}
+use Rattle.turn_book.specs.Board.{AreKnownChances, AreWaiters, IsBoard, IsFresh, chances_on}
 use Rattle.turn_book.proofs.Joined.{joined-within, not-noted, noted-set}
 use Rattle.turn_book.proofs.Waiters.{waiters-post, post-alone, not-so}
 use Rattle.turn_book.proofs.Lockers.{lock-within}
@@ -112,7 +112,7 @@ invariant_of-self c =
     → IsFresh f.stale (ask_of_post (next_posts_of ps u))
     → concerns t Nothing u (next_posts_of ps u) ≡ false
     → chance_of c.as_mut_slice-2.result.now u ≡ chance f.store (next_posts_of ps) u in
-    let K : List (Option Post) → Type 0 = λ ps. AreKnown f.store ps f.stale known in
+    let K : List (Option Post) → Type 0 = λ ps. AreKnownChances f.store ps f.stale known in
     let looked = subst K c.as_slice.ensures.value (c.look_again.ensures.chances f.stale
     (λ m e. absurd cc) (subst Q (sym c.as_slice.ensures.value) (λ u within fresh none.
     ap (λ cs. chance_of cs u) c.as_mut_slice-2.ensures.value

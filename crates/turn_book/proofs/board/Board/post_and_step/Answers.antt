@@ -16,7 +16,7 @@ use Rattle.policy_pick.specs.Choice.{chance_of, OpensOnly}
 use Rattle.turn_book.specs.Chances.{chance, chances}
 use Rattle.turn_book.specs.Board.{BoardState, PostsAndSteps, next_posts_of, concerns}
 use Rattle.turn_book.specs.Board.{joins_ask, ask_of_post, chances_on, posted_on, answer_of}
-use Rattle.turn_book.specs.Board.{verdict_of, AreKnown, AreWaiters, IsBoard, IsFresh, WereChances}
+use Rattle.turn_book.specs.Board.{verdict_of, AreKnownChances, AreWaiters, IsBoard, IsFresh, WereChances}
 use Rattle.turn_book.proofs.Boards.{chances-before, front-taken, others-kept, range-set}
 use Rattle.turn_book.proofs.Boards.{targets-away}
 use Rattle.turn_book.proofs.Lockers.{touched-within}
@@ -72,7 +72,7 @@ invariant_of-self c =
     → IsFresh stale (ask_of_post (next_posts_of ps u))
     → concerns t object u (next_posts_of ps u) ≡ false
     → chance_of c.as_mut_slice.result.now u ≡ chance after (next_posts_of ps) u in
-    let K : List (Option Post) → Type 0 = λ ps. AreKnown after ps stale known in
+    let K : List (Option Post) → Type 0 = λ ps. AreKnownChances after ps stale known in
     let looked = subst K c.as_slice.ensures.value (c.look_again-opened.ensures.chances stale
     c.with_stale-self-inside.ensures.touched
     (subst Q (unset posts t away ∙ sym c.as_slice.ensures.value) (λ u within fresh none.

@@ -16,7 +16,7 @@ use Rattle.turn_book.proofs.Lockers.{touched-within}
 use Rattle.turn_book.proofs.Boards.{board-set, front-taken}
 use Rattle.policy_pick.specs.declared.chance.Chance.{Chance}
 use Rattle.policy_pick.specs.Choice.{OpensOnly}
-use Rattle.turn_book.specs.Board.{AreLockers, AreKnown, AreWaiters, BoardState, IsBoard, IsFresh}
+use Rattle.turn_book.specs.Board.{AreLockers, AreKnownChances, AreWaiters, BoardState, IsBoard, IsFresh}
 use Rattle.turn_book.specs.Board.{WereChances, chances_on}
 use Rattle.pct_ask.specs.declared.ask.Ask.{Ask}
 use Rattle.sync_store.specs.Store.{sizes_of}
@@ -110,7 +110,7 @@ invariant_of-self c =
     → IsFresh stale (ask_of_post (next_posts_of ps u))
     → concerns t object u (next_posts_of ps u) ≡ false
     → chance_of c.as_mut_slice-in-Some.result.now u ≡ chance after (next_posts_of ps) u in
-    let K : List (Option Post) → Type 0 = λ ps. AreKnown after ps stale known in
+    let K : List (Option Post) → Type 0 = λ ps. AreKnownChances after ps stale known in
     let looked = subst K c.as_slice.ensures.value (c.look_again-opened.ensures.chances stale
     c.with_stale-self-inside.ensures.touched
     (subst Q (sym c.as_slice.ensures.value) (λ u within fresh none.

@@ -1,7 +1,7 @@
 use Rattle.std.proofs.Common.{◌≡◌, ◌≤◌}
 use Rattle.choices.specs.Orders.{factorial}
 use Rattle.sweep.specs.Choices.{most_choices}
-use Rattle.sweep.proofs.choice.order_count.Given as goal
+use Rattle.sweep.proofs.choice.few_orders.Given as goal
 
 abbrev pub invariant-loop-fewer : goal.invariant-loop-fewer
 invariant-loop-fewer l = record {

@@ -3,7 +3,7 @@ use Rattle.std.proofs.Common.{◌+◌, ◌*◌, ap, arith}
 use Rattle.choices.specs.Orders.{factorial}
 use Rattle.choices.proofs.laws.Factorials.{more-orders, fewer-orders}
 use Rattle.sweep.proofs.Places.{too-many}
-use Rattle.sweep.proofs.choice.order_count.Goals as goal
+use Rattle.sweep.proofs.choice.few_orders.Goals as goal
 
 pub returns-in_err-count : goal.returns-in_err-count
 returns-in_err-count c =
