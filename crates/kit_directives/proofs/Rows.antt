@@ -9,19 +9,19 @@ use Rattle.directive_run.specs.declared.answers.Certified.{Certified}
 use Rattle.directive_run.specs.declared.answers.Certified.TheVariants.{Yes, Refuted, TooLong}
 use Rattle.directive_run.specs.declared.answers.Certified.TheVariants.{TooManyThreads}
 use Rattle.kit_runs.proofs.Laws.{at-end}
-use Rattle.kit_directives.specs.Certified.{AreFirstRows, IsOrderAt, IsLedAt, JudgesAt}
+use Rattle.kit_directives.specs.Certified.{AreRowsOfOrders, IsOrderAt, IsLedAt, JudgesAt}
 use Rattle.kit_directives.specs.Certified.{IsFirstOther, Certifies}
 use Rattle.kit_directives.specs.declared.judging.Judged.{Judged}
 use Rattle.kit_directives.specs.declared.judging.Judged.TheVariants.{Led, Other}
 
 module _ (deal : Deal) (directive : Directive) (steps limit : ℕ) where
-  pub no-rows : AreFirstRows deal directive steps limit 0 []
+  pub no-rows : AreRowsOfOrders deal directive steps limit 0 []
   no-rows = record { all = refl; each = λ place row is. absurd cc }
 
   pub one-row : (rows : List CertifyRow) (count : ℕ) (row : CertifyRow)
-      → AreFirstRows deal directive steps limit count rows
+      → AreRowsOfOrders deal directive steps limit count rows
       → IsLedAt deal directive steps limit count row
-      → AreFirstRows deal directive steps limit (count + 1) (rows ++ row ∷ [])
+      → AreRowsOfOrders deal directive steps limit (count + 1) (rows ++ row ∷ [])
   one-row rows count row are is = record {
     all = length-append rows (row ∷ []) ∙ ap (λ n. n + 1) are.all;
     each = λ place other found. elim (at-end rows row other place found) [
@@ -49,7 +49,7 @@ module _ (deal : Deal) (directive : Directive) (steps limit : ℕ) where
 
   pub first-other : deal.threads ≤ 7 → (rows : List CertifyRow) (place : ℕ) (judged : Judged)
       (certified : Certified) → judged ≡ Other certified
-      → AreFirstRows deal directive steps limit place rows
+      → AreRowsOfOrders deal directive steps limit place rows
       → JudgesAt deal directive steps limit place judged
       → IsFirstOther deal directive steps limit certified
   first-other few rows place judged certified is are judges =
@@ -57,7 +57,7 @@ module _ (deal : Deal) (directive : Directive) (steps limit : ℕ) where
       record {
         few = few;
         rows = rows;
-        before = subst (λ (n : ℕ). AreFirstRows deal directive steps limit n rows) (sym are.all)
+        before = subst (λ (n : ℕ). AreRowsOfOrders deal directive steps limit n rows) (sym are.all)
             are;
         order = says.0;
         at = subst (λ (n : ℕ). IsOrderAt deal directive n says.0) (sym are.all) says.1;

@@ -39,7 +39,7 @@ IsLedAt deal directive steps limit place row =
     × IsLedRow deal directive steps limit order row
 
 -- there is such a row for each of the first so many orders
-pub record AreFirstRows (deal : Deal) (directive : Directive) (steps limit many : ℕ)
+pub record AreRowsOfOrders (deal : Deal) (directive : Directive) (steps limit many : ℕ)
     (rows : List CertifyRow) : Type 0 where
   pub all : length rows ≡ many
   pub each : (place : ℕ) (row : CertifyRow) → slice_get rows place ≡ Some row
@@ -88,14 +88,14 @@ pub record IsCertified (deal : Deal) (directive : Directive) (steps limit bound 
     (rows : List CertifyRow) : Type 0 where
   pub few : deal.threads ≤ MAX_CERTIFIED_THREADS
   pub bound_is : bound ≡ deal.threads * steps ^ length directive.events
-  pub rows_are : AreFirstRows deal directive steps limit (factorial (deal.threads - 1)) rows
+  pub rows_are : AreRowsOfOrders deal directive steps limit (factorial (deal.threads - 1)) rows
 
 -- The answer is of the order at some place, and those before it are led to the verdict.
 pub record IsFirstOther (deal : Deal) (directive : Directive) (steps limit : ℕ)
     (certified : Certified) : Type 0 where
   pub few : deal.threads ≤ MAX_CERTIFIED_THREADS
   pub rows : List CertifyRow
-  pub before : AreFirstRows deal directive steps limit (length rows) rows
+  pub before : AreRowsOfOrders deal directive steps limit (length rows) rows
   pub order : List ℕ
   pub at : IsOrderAt deal directive (length rows) order
   pub says : SaysOther deal directive steps limit order certified

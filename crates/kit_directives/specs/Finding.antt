@@ -52,7 +52,8 @@ pub record IsReduced (deal : Deal) (order : List ℕ) (limit : ℕ) (verdict : V
 -- Passed. The directive's moments are left of those of that run. A run of them has the verdict and
 -- so many steps, and without any one of them a run has another verdict. The thread is the order's
 -- last.
-pub record IsFound (deal : Deal) (order points : List ℕ) (limit : ℕ) (directive : Directive)
+pub record IsFoundDirective (deal : Deal) (order points : List ℕ) (limit : ℕ)
+    (directive : Directive)
     (steps : ℕ) : Type 0 where
   pub made : TraceFile
   pub run : IsFileOf deal order points limit made
@@ -74,5 +75,5 @@ pub record IsPass (deal : Deal) (order points : List ℕ) (limit steps : ℕ) : 
 -- what each answer says
 abbrev pub Finds : Deal → List ℕ → List ℕ → ℕ → Finding → Type 0
 Finds deal order points limit (Fails directive steps) =
-    IsFound deal order points limit directive steps
+    IsFoundDirective deal order points limit directive steps
 Finds deal order points limit (Passes steps) = IsPass deal order points limit steps

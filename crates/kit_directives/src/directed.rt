@@ -3,6 +3,7 @@ ghost use Rattle.std.specs.Prelude.{◌≡◌, ◌<◌, ◌≤◌, ◌^◌, leng
 ghost use Rattle.kit_directives.specs.Directed.{IsDirectedFile};
 ghost use Rattle.pct_ask.specs.declared.limits.TheConstants.{MAX_POINTS, MAX_STEPS};
 
+use crate::trial::Trial;
 use choices::points_of;
 use kit_runs::{Program, RunError, run_program};
 use pct_ask::Deal;
@@ -56,34 +57,54 @@ fn learn(points: &mut [u32], found: &[u32], limit: u32) -> bool
 fn run_round<R: Threads + Wait + Sync, T: Program + Sync>(
     rt: &R,
     alloc: Global,
-    deal: &Deal,
-    order: &[u32],
+    trial: &Trial<'_>,
     moments: &[Moment],
     points: &mut [u32],
-    limit: u32,
     program: &T,
 ) -> Result<Option<TraceFile>, RunError>
-    requires some_steps { 1 ≤ limit }
-    requires few_steps { limit ≤ MAX_STEPS }
     requires few_points { length points.old ≤ MAX_POINTS }
-    requires few_names { length order.now < 2 ^ 32 }
-    requires fits { T.fits program.now deal.now }
+    requires fits { T.fits program.now trial.now.deal.now }
     ensures long { length points.new ≡ length points.old }
     ensures run { IfOk result (λ made. IfSome made (λ file.
-        IsDirectedFile deal.now order.now moments.now limit file)) }
+        IsDirectedFile trial.now.deal.now trial.now.order.now moments.now trial.now.limit file)) }
     ensures short { IfOk result (λ made. IfSome made (λ file.
-        length file.events ≤ limit)) }
+        length file.events ≤ trial.now.limit)) }
 {
-    let own = deal.copy(alloc)?;
-    let file = run_program(rt, alloc, own, order, points, limit, program)?;
-    let found = points_of(alloc, file.events.as_slice(), limit, moments)?;
+    let own = trial.deal.copy(alloc)?;
+    let file = run_program(rt, alloc, own, trial.order, points, trial.limit, program)?;
+    let found = points_of(alloc, file.events.as_slice(), trial.limit, moments)?;
     if found.as_slice() == points {
         return Ok(Some(file));
     }
-    if !learn(points, found.as_slice(), limit) {
+    if !learn(points, found.as_slice(), trial.limit) {
         return Err(RunError::Unsteady);
     }
     Ok(None)
+}
+
+/// The run by moments: that of the points which stand for them in it. These are found one after
+/// another, by at most one run more than there are moments.
+pub fn run_by_moments<R: Threads + Wait + Sync, T: Program + Sync>(
+    rt: &R,
+    alloc: Global,
+    trial: &Trial<'_>,
+    moments: &[Moment],
+    program: &T,
+) -> Result<TraceFile, RunError>
+    requires few_moments { length moments.now ≤ MAX_POINTS }
+    requires fits { T.fits program.now trial.now.deal.now }
+    ensures run { IfOk result (λ file.
+        IsDirectedFile trial.now.deal.now trial.now.order.now moments.now trial.now.limit file) }
+    ensures short { IfOk result (λ file. length file.events ≤ trial.now.limit) }
+{
+    let mut points = unknown_points(alloc, moments.len(), trial.limit)?;
+    for _round in 0..moments.len() + 1 {
+        let made = run_round(rt, alloc, trial, moments, &mut points, program)?;
+        if let Some(file) = made {
+            return Ok(file);
+        }
+    }
+    Err(RunError::Unsteady)
 }
 
 /// Runs a program by an order of its threads and moments: a thread is lowered after its own step of
@@ -107,12 +128,6 @@ pub fn run_directed<R: Threads + Wait + Sync, T: Program + Sync>(
         IsDirectedFile deal.now order.now moments.now limit file) }
     ensures short { IfOk result (λ file. length file.events ≤ limit) }
 {
-    let mut points = unknown_points(alloc, moments.len(), limit)?;
-    for _round in 0..moments.len() + 1 {
-        let made = run_round(rt, alloc, deal, order, moments, &mut points, limit, program)?;
-        if let Some(file) = made {
-            return Ok(file);
-        }
-    }
-    Err(RunError::Unsteady)
+    let trial = Trial { deal, order, limit };
+    run_by_moments(rt, alloc, &trial, moments, program)
 }

@@ -10,6 +10,7 @@ ghost use Rattle.kit_directives.specs.Finding.{Finds};
 ghost use Rattle.pct_ask.specs.declared.limits.TheConstants.{MAX_POINTS, MAX_STEPS};
 
 use crate::reducing::{ShortMoments, reduce, steps_to};
+use crate::trial::Trial;
 use choices::moments_of;
 use directive::Directive;
 use kit_runs::{Program, RunError, run_program};
@@ -43,29 +44,24 @@ fn last_of(order: &[u32]) -> Result<u32, RunError>
 fn whole_moments<R: Threads + Wait + Sync, T: Program + Sync>(
     rt: &R,
     alloc: Global,
-    deal: &Deal,
-    order: &[u32],
+    trial: &Trial<'_>,
     points: &[u32],
-    limit: u32,
     made: &TraceFile,
     program: &T,
 ) -> Result<ShortMoments, RunError>
-    requires some_steps { 1 ≤ limit }
-    requires few_steps { limit ≤ MAX_STEPS }
     requires few_points { length points.now ≤ MAX_POINTS }
     requires points { All (λ point. 1 ≤ point) points.now }
-    requires few_names { length order.now < 2 ^ 32 }
-    requires fits { T.fits program.now deal.now }
+    requires fits { T.fits program.now trial.now.deal.now }
     ensures moments { IfOk result (λ whole. whole.moments
         ≡ moments_of (schedule_of made.now.events) points.now) }
     ensures few { IfOk result (λ whole. length whole.moments ≤ MAX_POINTS) }
-    ensures leads { IfOk result (λ whole. LeadsTo deal.now order.now limit made.now.verdict
-        whole.moments whole.steps) }
+    ensures leads { IfOk result (λ whole. LeadsTo trial.now.deal.now trial.now.order.now
+        trial.now.limit made.now.verdict whole.moments whole.steps) }
 {
     let moments = moments_of(alloc, made.events.as_slice(), points)?;
     let all = moments.as_slice();
     let verdict = &made.verdict;
-    match steps_to(rt, alloc, deal, order, all, limit, verdict, program)? {
+    match steps_to(rt, alloc, trial, all, verdict, program)? {
         Some(steps) => Ok(ShortMoments { moments, steps }),
         None => Err(RunError::Unsteady),
     }
@@ -75,26 +71,23 @@ fn whole_moments<R: Threads + Wait + Sync, T: Program + Sync>(
 fn shorten<R: Threads + Wait + Sync, T: Program + Sync>(
     rt: &R,
     alloc: Global,
-    deal: &Deal,
-    order: &[u32],
+    trial: &Trial<'_>,
     points: &[u32],
-    limit: u32,
     made: &TraceFile,
     program: &T,
 ) -> Result<Finding, RunError>
-    requires some_steps { 1 ≤ limit }
-    requires few_steps { limit ≤ MAX_STEPS }
     requires few_points { length points.now ≤ MAX_POINTS }
     requires points { All (λ point. 1 ≤ point) points.now }
-    requires few_names { length order.now < 2 ^ 32 }
-    requires fits { T.fits program.now deal.now }
-    requires run { IsFileOf deal.now order.now points.now limit made.now }
+    requires fits { T.fits program.now trial.now.deal.now }
+    requires run { IsFileOf trial.now.deal.now trial.now.order.now points.now
+        trial.now.limit made.now }
     requires fails { made.now.verdict ≢ Passed }
-    ensures { IfOk result (Finds deal.now order.now points.now limit) }
+    ensures { IfOk result
+        (Finds trial.now.deal.now trial.now.order.now points.now trial.now.limit) }
 {
-    let low = last_of(order)?;
-    let whole = whole_moments(rt, alloc, deal, order, points, limit, made, program)?;
-    let short = reduce(rt, alloc, deal, order, whole, limit, &made.verdict, program)?;
+    let low = last_of(trial.order)?;
+    let whole = whole_moments(rt, alloc, trial, points, made, program)?;
+    let short = reduce(rt, alloc, trial, whole, &made.verdict, program)?;
     Ok(Finding::Fails {
         directive: Directive {
             low,
@@ -109,27 +102,23 @@ fn shorten<R: Threads + Wait + Sync, T: Program + Sync>(
 fn find_of<R: Threads + Wait + Sync, T: Program + Sync>(
     rt: &R,
     alloc: Global,
-    deal: &Deal,
-    order: &[u32],
+    trial: &Trial<'_>,
     points: &[u32],
-    limit: u32,
     program: &T,
 ) -> Result<Finding, RunError>
-    requires some_steps { 1 ≤ limit }
-    requires few_steps { limit ≤ MAX_STEPS }
     requires few_points { length points.now ≤ MAX_POINTS }
     requires points { All (λ point. 1 ≤ point) points.now }
-    requires few_names { length order.now < 2 ^ 32 }
-    requires fits { T.fits program.now deal.now }
-    ensures { IfOk result (Finds deal.now order.now points.now limit) }
+    requires fits { T.fits program.now trial.now.deal.now }
+    ensures { IfOk result
+        (Finds trial.now.deal.now trial.now.order.now points.now trial.now.limit) }
 {
-    let own = deal.copy(alloc)?;
-    let made = run_program(rt, alloc, own, order, points, limit, program)?;
+    let own = trial.deal.copy(alloc)?;
+    let made = run_program(rt, alloc, own, trial.order, points, trial.limit, program)?;
     if made.verdict.is(&Verdict::Passed) {
         let steps = made.events.len() as u32;
         return Ok(Finding::Passes { steps });
     }
-    let found = shorten(rt, alloc, deal, order, points, limit, &made, program);
+    let found = shorten(rt, alloc, trial, points, &made, program);
     drop(made);
     found
 }
@@ -154,5 +143,7 @@ pub fn find<R: Threads + Wait + Sync, T: Program + Sync>(
 {
     let order = header.order.as_slice();
     let points = header.points.as_slice();
-    find_of(rt, alloc, deal, order, points, header.limit, program)
+    let limit = header.limit;
+    let trial = Trial { deal, order, limit };
+    find_of(rt, alloc, &trial, points, program)
 }

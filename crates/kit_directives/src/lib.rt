@@ -7,7 +7,8 @@
 //!   `run_directed`: `run`, `short` (`IsDirectedFile`).
 //! - `find` says that the run passes where it does; else its directive's moments are left of the
 //!   run's, lead to its verdict, and without any one of them a run has another verdict: `find`, its
-//!   clause (`Finds`, `IsFound.left`, `IsFound.leads`, `IsFound.needed`, `IsPass.passes`).
+//!   clause (`Finds`, `IsFoundDirective.left`, `IsFoundDirective.leads`,
+//!   `IsFoundDirective.needed`, `IsPass.passes`).
 //! - `certify` says yes where each order with the directive's thread last was run, and led to its
 //!   verdict in at most k steps, with a row for each and the bound n k^m; else the first order that
 //!   isn't: `certify`, its clause (`Certifies`, `IsCertified.rows_are`, `IsCertified.bound_is`,
@@ -20,6 +21,7 @@ mod finding;
 mod judging;
 mod reducing;
 mod texts;
+mod trial;
 
 pub use certifying::certify;
 pub use directed::run_directed;

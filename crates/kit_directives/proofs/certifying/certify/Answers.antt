@@ -2,13 +2,13 @@
 use Rattle.std.proofs.Common.{◌≡◌, ◌+◌, ◌-◌, ◌*◌, ◌^◌, ℕ, List, sym, ap, subst, ◌∙◌, arith}
 use Rattle.choices.specs.Orders.{factorial}
 use Rattle.directive_run.specs.declared.answers.CertifyRow.{CertifyRow}
-use Rattle.kit_directives.specs.Certified.{AreFirstRows}
+use Rattle.kit_directives.specs.Certified.{AreRowsOfOrders}
 use Rattle.kit_directives.proofs.Rows.{no-rows, one-row, led-at, first-other, other-answer}
 use Rattle.kit_directives.proofs.certifying.certify.Goals as goal
 
 pub loop-place-init : goal.loop-place-init
 loop-place-init g c =
-    subst (λ (rows : List CertifyRow). AreFirstRows c.args.deal.now c.args.directive.now
+    subst (λ (rows : List CertifyRow). AreRowsOfOrders c.args.deal.now c.args.directive.now
     c.args.steps c.args.limit 0 rows) (sym c.new-rows.ensures)
     (no-rows c.args.deal.now c.args.directive.now c.args.steps c.args.limit)
 
@@ -19,7 +19,7 @@ loop-place-preserved g c =
     let directive = c.args.directive.now in
     let led = led-at deal directive c.args.steps c.args.limit at.place c.in_ok-row.field-0
     c.in-Led.row c.in-Led.is c.in_ok-row.ensures in
-    subst (λ (rows : List CertifyRow). AreFirstRows deal directive c.args.steps c.args.limit
+    subst (λ (rows : List CertifyRow). AreRowsOfOrders deal directive c.args.steps c.args.limit
     (at.place + 1) rows) (sym c.in_ok-try_push-in-Led.ensures.ok)
     (one-row deal directive c.args.steps c.args.limit at.rows at.place c.in-Led.row at.invariant
     led)
@@ -45,6 +45,7 @@ returns g c =
       few = omega (arith, c.if-threads-gt-MAX_CERTIFIED_THREADS.false);
       bound_is = c.bound_of-bound.ensures
           ∙ ap (λ n. deal.threads * c.args.steps ^ n) c.len.ensures;
-      rows_are = subst (λ (n : ℕ). AreFirstRows deal c.args.directive.now c.args.steps c.args.limit
+      rows_are =
+          subst (λ (n : ℕ). AreRowsOfOrders deal c.args.directive.now c.args.steps c.args.limit
           n at.rows) done at.invariant;
     }

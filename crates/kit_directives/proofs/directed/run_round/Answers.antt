@@ -10,15 +10,16 @@ use Rattle.kit_directives.proofs.directed.run_round.Goals as goal
 
 pub returns-then-eq-clause-run : goal.returns-then-eq-clause-run
 returns-then-eq-clause-run g c =
+    let trial = c.args.trial.now in
     let lent = c.as_slice-2.result.now in
     let same : lent ≡ c.args.points.now =
     (slice_eq-Decides unsigned_Decides lent c.args.points.now c.eq.result c.eq.ensures).0
     c.if-eq.true in
     record {
       points = c.args.points.now;
-      run = subst (λ (d : Deal). IsFileOf d c.args.order.now c.args.points.now c.args.limit
+      run = subst (λ (d : Deal). IsFileOf d trial.order.now c.args.points.now trial.limit
           c.in_ok-file.file) c.in_ok-own.ensures c.in_ok-file.ensures.run;
       stand = sym same ∙ c.as_slice-2.ensures ∙ c.in_ok-found.ensures
-          ∙ ap (λ es. points_of (schedule_of es) c.args.limit c.args.moments.now)
+          ∙ ap (λ es. points_of (schedule_of es) trial.limit c.args.moments.now)
           c.as_slice.ensures;
     }

@@ -7,18 +7,20 @@ use Rattle.kit_directives.proofs.reducing.leave_out.Goals as goal
 
 pub returns-in-Some-clause-leaves : goal.returns-in-Some-clause-leaves
 returns-in-Some-clause-leaves g c =
-    led-out c.args.deal.now c.args.order.now c.args.limit c.args.verdict.now c.args.moments.now
+    let trial = c.args.trial.now in
+    led-out trial.deal.now trial.order.now trial.limit c.args.verdict.now c.args.moments.now
     c.as_slice.result.now c.in_ok-rest.rest c.loop-place.place c.in_ok-led.led c.in-Some.steps
     c.as_slice.ensures c.in_ok-rest.ensures c.loop-place-test.true c.in-Some.is
     c.in_ok-led.ensures.leads
 
 pub loop-place-preserved : goal.loop-place-preserved
 loop-place-preserved g c =
-    let deal = c.args.deal.now in
-    let order = c.args.order.now in
+    let trial = c.args.trial.now in
+    let deal = trial.deal.now in
+    let order = trial.order.now in
     let verdict = c.args.verdict.now in
-    let H : List Moment → Type 0 = λ ms. HasOther deal order c.args.limit verdict ms in
-    one-more deal order c.args.limit verdict c.args.moments.now c.in_ok-rest.rest c.loop-place.place
+    let H : List Moment → Type 0 = λ ms. HasOther deal order trial.limit verdict ms in
+    one-more deal order trial.limit verdict c.args.moments.now c.in_ok-rest.rest c.loop-place.place
     c.in_ok-rest.ensures c.loop-place.invariant
     (subst H c.as_slice.ensures (c.in_ok-led.ensures.other c.in_default.is))
 

@@ -13,7 +13,8 @@ rounds-init g c = record {
 
 pub rounds-preserved : goal.rounds-preserved
 rounds-preserved g c =
-    let leaves = some-leaves c.args.deal.now c.args.order.now c.args.limit c.args.verdict.now
+    let trial = c.args.trial.now in
+    let leaves = some-leaves trial.deal.now trial.order.now trial.limit c.args.verdict.now
     c.rounds.short.moments c.as_slice.result.now c.in_ok-shorter.field-0 c.as_slice.ensures
     c.in-Some.shorter c.in-Some.is c.in_ok-shorter.ensures.leaves in
     record {
@@ -22,16 +23,18 @@ rounds-preserved g c =
           c.in-Some.is c.in_ok-shorter.ensures.fewer in
           omega (arith, fewer, ap length c.as_slice.ensures, c.rounds.invariant.few));
       leads = leaves.3;
-      left = one-round c.args.deal.now c.args.order.now c.args.limit c.args.verdict.now
+      left = one-round trial.deal.now trial.order.now trial.limit c.args.verdict.now
           c.args.whole.moments c.rounds.short.moments c.in-Some.shorter leaves
           c.rounds.invariant.left;
     }
 
 pub returns : goal.returns
-returns g c = record {
-  left = c.rounds.invariant.left;
-  leads = c.rounds.invariant.leads;
-  needed = none-leaves c.args.deal.now c.args.order.now c.args.limit c.args.verdict.now
-      c.rounds.short.moments c.as_slice.result.now c.in_ok-shorter.field-0 c.as_slice.ensures
-      c.in_default.is c.in_ok-shorter.ensures.leaves;
-}
+returns g c =
+    let trial = c.args.trial.now in
+    record {
+      left = c.rounds.invariant.left;
+      leads = c.rounds.invariant.leads;
+      needed = none-leaves trial.deal.now trial.order.now trial.limit c.args.verdict.now
+          c.rounds.short.moments c.as_slice.result.now c.in_ok-shorter.field-0 c.as_slice.ensures
+          c.in_default.is c.in_ok-shorter.ensures.leaves;
+    }

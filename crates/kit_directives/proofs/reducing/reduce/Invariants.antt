@@ -7,7 +7,8 @@ use Rattle.kit_directives.proofs.reducing.reduce.Given as goal
 abbrev pub invariant-rounds : goal.invariant-rounds
 invariant-rounds g l = record {
   few : length l.short.moments ≤ 7;
-  leads : LeadsTo l.deal l.order l.limit l.verdict l.short.moments l.short.steps;
+  leads : LeadsTo l.trial.deal.now l.trial.order.now l.trial.limit l.verdict
+      l.short.moments l.short.steps;
   left : IsLeftOf l.fn.whole.moments l.short.moments;
 }
 
