@@ -12,17 +12,17 @@ use Rattle.pct_top.specs.declared.status.Status.TheVariants as statuses
 use Rattle.pct_top.specs.Settings.{SettingsOrWord, settings}
 use Rattle.pct_top.specs.Refusing.{status_of_refusal, refusal_line}
 use Rattle.pct_top.specs.Saying.{SaysLine}
-use Rattle.pct_top.specs.Printed.{Files, Printed, printed_refusal}
+use Rattle.pct_top.specs.Printed.{NamedFiles, Printed, printed_refusal}
 use Rattle.pct_top.specs.Output.{OfTaken, Output}
 use Rattle.pct_top.specs.CommandOutput.{printed_of, ShowsFiles, Comes}
 use Rattle.pct_outside.specs.Told.{ShelfTold, StreamTold}
 use Rattle.pct_top.specs.Outside.{Outside}
 use Rattle.pct_top.specs.Call.{IsCarriedOut, PrintsOne, PutsAll, PutsOutput, RefusedFirst}
 use Rattle.pct_top.specs.Call.{ReadFailed}
-use Rattle.pct_top.specs.Call.{Answers, RefusedWords, CanRun, Completes, PrintsAll, IsExact}
+use Rattle.pct_top.specs.Call.{AnswersCall, RefusedWords, CanRun, Completes, PrintsAll, IsExact}
 use Rattle.pct_top.specs.Call.{PrintsWhole, Refuses, Ends, LeavesShelf, ReadsNone, is_read_fault}
 use Rattle.pct_top.specs.Call.{with_files, EndsExactly, IsCall}
-use Rattle.pct_top.specs.Reads.{is_unread}
+use Rattle.pct_top.specs.Reads.{is_missed}
 use Rattle.pct_top.proofs.Shelves.{done_is_read, refusal_is_read}
 use Rattle.pct_top.proofs.OneReport.{told_answers}
 use Rattle.pct_top.proofs.OnePrinted.{one_printed, printed_answers}
@@ -32,7 +32,7 @@ use Rattle.pct_top.proofs.OnePrinted.{one_printed, printed_answers}
 module _ (taken : SettingsOrWord) (shelf shelf' : ShelfTold) where
   pub answers_refused : (stream : StreamTold) (refusal : Refusal)
       → Comes (OfTaken taken) shelf.files (ReadFailed taken shelf shelf') (Err refusal)
-      → Answers taken shelf shelf' stream stream (Err refusal)
+      → AnswersCall taken shelf shelf' stream stream (Err refusal)
   answers_refused stream (Usage word) h = (refl, h)
   answers_refused stream (Script line kind) h = (refl, h)
   answers_refused stream (Trace line kind) h = (refl, h)
@@ -43,7 +43,8 @@ module _ (taken : SettingsOrWord) (shelf shelf' : ShelfTold) where
 
   pub answers_put : (before after : StreamTold) (output : CommandOutput) (r : Result Status Refusal)
       → ShowsFiles (OfTaken taken) shelf.files (printed_of output)
-      → PutsOutput (printed_of output) before after r → Answers taken shelf shelf' before after r
+      → PutsOutput (printed_of output) before after r
+      → AnswersCall taken shelf shelf' before after r
   answers_put before after output (Ok status) h p = (
     subst IsCarriedOut (sym p.1) (told_answers output.text.items output.done),
     λ files e. (printed_of output, h files e, p),
@@ -83,7 +84,7 @@ module _ (words : List (List ℕ)) (found left : Outside) where
   taken = settings words
 
   abbrev Is : Result Status Refusal → Type 0
-  Is r = Answers taken found.shelf left.shelf found.output left.output r
+  Is r = AnswersCall taken found.shelf left.shelf found.output left.output r
 
   says_nothing : (line : List ℕ) → line ≡ [] → left.errors ≡ found.errors
       → SaysLine line found.errors left.errors
@@ -139,13 +140,13 @@ module _ (words : List (List ℕ)) (found left : Outside) where
 
   -- ---- what is printed is all that may be
 
-  exact_whole : (status : Status) → PrintsWhole words found left status → (files : Files)
+  exact_whole : (status : Status) → PrintsWhole words found left status → (files : NamedFiles)
       → (found.shelf).files ≡ Some files → (printed : Printed) → Output words files printed
       → PrintsAll found left status printed
   exact_whole status h files is printed may = let q = h files is in
       subst (PrintsAll found left status) (one_printed taken files q.0 printed q.1 may) q.2
 
-  part : (has : Printed → Type 0) → PrintsOne taken (found.shelf).files has → (files : Files)
+  part : (has : Printed → Type 0) → PrintsOne taken (found.shelf).files has → (files : NamedFiles)
       → (found.shelf).files ≡ Some files → (printed : Printed) → Output words files printed
       → has printed
   part has h files is printed may = let q = h files is in
@@ -169,7 +170,7 @@ module _ (words : List (List ℕ)) (found left : Outside) where
 
   -- ---- what can run does
 
-  made : (status : Status) → PrintsWhole words found left status → (files : Files)
+  made : (status : Status) → PrintsWhole words found left status → (files : NamedFiles)
       → (found.shelf).files ≡ Some files → CanRun taken files → IsCarriedOut status
   made status h files is can = let q = h files is in
       subst IsCarriedOut (sym q.2.0) (printed_answers taken files q.0 can q.1)
@@ -211,7 +212,7 @@ module _ (words : List (List ℕ)) (found left : Outside) where
 
   call_of : (status : Status) → EndsExactly words found left status → RefusedWords taken status
       → LeavesShelf taken (is_read_fault status) found.shelf left.shelf
-      → (ReadsNone taken → (files : Files)
+      → (ReadsNone taken → (files : NamedFiles)
       → EndsExactly words (with_files files found) left status)
       → IsCall words found left status
   call_of status ends words_refused leaves unread = record {
@@ -224,16 +225,16 @@ module _ (words : List (List ℕ)) (found left : Outside) where
   }
 
 module _ (words : List (List ℕ)) (found left : Outside) where
-  abbrev IsOver : Files → Result Status Refusal → Type 0
-  IsOver files r = Answers (settings words)
+  abbrev IsOver : NamedFiles → Result Status Refusal → Type 0
+  IsOver files r = AnswersCall (settings words)
       (record { files = Some files; failed = (found.shelf).failed }) left.shelf found.output
       left.output r
 
   abbrev IsAny : Result Status Refusal → Type 0
   IsAny r =
-      Answers (settings words) found.shelf left.shelf found.output left.output r
-      × (ReadsNone (settings words) → (files : Files) → IsOver files r)
-      × LeavesShelf (settings words) (is_unread r) found.shelf left.shelf
+      AnswersCall (settings words) found.shelf left.shelf found.output left.output r
+      × (ReadsNone (settings words) → (files : NamedFiles) → IsOver files r)
+      × LeavesShelf (settings words) (is_missed r) found.shelf left.shelf
 
   pub call_ran : (status : Status) → left.errors ≡ found.errors → IsAny (Ok status)
       → RefusedFirst (settings words) (Ok status) → IsCall words found left status

@@ -18,10 +18,10 @@ use Rattle.worker_run.specs.declared.serving.Serve.{Serve}
 use Rattle.worker_run.specs.Run.{run}
 use Rattle.choices.specs.Orders.{factorial}
 use Rattle.choices.specs.Counting.{hits}
-use Rattle.choices.specs.Laws.{IsOrderOf}
+use Rattle.rank_now.specs.Order.{IsOrderOf}
 use Rattle.directive.specs.DirectiveText.{DirectiveText}
 use Rattle.sweep.specs.Choices.{choice_count, most_choices}
-use Rattle.sweep.specs.Rows.{Setup}
+use Rattle.sweep.specs.Rows.{SweepSetup}
 use Rattle.sweep.specs.Swept.{Sweeps, IsFailure, AllPass, hits_of, IsCounted as CountsChoices}
 use Rattle.sweep.specs.declared.sweeping.Swept.{Swept}
 use Rattle.sweep.specs.declared.sweeping.Answer.{Answer}
@@ -31,7 +31,7 @@ use Rattle.pct_top.specs.declared.refusal.Refusal.TheVariants.{Script}
 use Rattle.pct_top.specs.declared.settings.Settings.TheVariants.{Sweep}
 use Rattle.pct_top.specs.declared.status.Status.TheVariants.{Done}
 use Rattle.pct_top.specs.Settings.{SettingsOrWord, AreLawful}
-use Rattle.pct_top.specs.Printed.{Files, Printed, printed_text, script_bytes}
+use Rattle.pct_top.specs.Printed.{NamedFiles, Printed, printed_text, script_bytes}
 use Rattle.pct_top.specs.Runs.{DrawsFrom}
 use Rattle.pct_top.specs.Output.{OfTaken}
 use Rattle.pct_top.specs.Call.{IsCarriedOut}
@@ -39,7 +39,7 @@ use Rattle.pct_top.specs.Counted.{IsOneIn}
 use Rattle.pct_top.specs.commands.Campaign.{frame_of}
 use Rattle.pct_top.specs.commands.Sweep.{swept_setup, sweep_report, too_many_text, PrintsAnswer}
 use Rattle.pct_top.specs.commands.Sweep.{OfChoices, OfSweep}
-use Rattle.pct_top.specs.Cleared.{EveryRunPasses, TellsChoices, IsSwept, SweptAreCleared}
+use Rattle.pct_top.specs.Cleared.{EveryRunPasses, TellsChoices, IsSweepTold, SweptAreCleared}
 use Rattle.pct_top.specs.Cleared.{TellsAtLeast, CertifiedAreSwept}
 use Rattle.pct_top.proofs.Counts.{certified_counted}
 use Rattle.pct_top.proofs.OptionRanges.{words_lawful}
@@ -59,7 +59,7 @@ clear_done : (n : ℕ) (text : List ℕ) → n ≡ 0 → (printed_text text (n =
 clear_done n text none = ap (λ (m : ℕ). (printed_text text (m == 0)).status) none
 
 module _ (script : ScriptText) (deal : Deal) (of : IsDealOf script deal) (depth k limit : ℕ) where
-  abbrev setup : Setup
+  abbrev setup : SweepSetup
   setup = swept_setup script deal depth k limit
 
   abbrev count : ℕ → ℕ
@@ -78,14 +78,15 @@ module _ (script : ScriptText) (deal : Deal) (of : IsDealOf script deal) (depth 
 
 -- ---- a sweep
 
-module _ (files : Files) (file : List ℕ) (depth : ℕ) (steps : Option ℕ) (limit : ℕ) (json : Bool)
+module _ (files : NamedFiles) (file : List ℕ) (depth : ℕ) (steps : Option ℕ) (limit : ℕ)
+    (json : Bool)
     (serve : Serve) (printed : Printed) where
   by_answer : (script : ScriptText) (deal : Deal) (k : ℕ)
       → Spells (take script_bytes (files file)) script → IsDealOf script deal
       → DrawsFrom script deal limit steps k → (answer : Answer)
       → Sweeps (swept_setup script deal depth k limit) answer
       → PrintsAnswer json script (frame_of deal depth k limit) answer printed
-      → IsSwept files file depth steps limit json printed
+      → IsSweepTold files file depth steps limit json printed
   by_answer script deal k spelled of drawn (Whole swept) sweeps prints =
       let counted = sweeps_counted (swept_setup script deal depth k limit) swept sweeps.1 in
       let report = sweep_report json script (frame_of deal depth k limit) swept prints.0 in
@@ -134,7 +135,7 @@ module _ (files : Files) (file : List ℕ) (depth : ℕ) (steps : Option ℕ) (l
       }
 
   by_taken : OfTaken (Ok (Sweep file depth steps limit json serve)) files printed
-      → IsCarriedOut printed.status → IsSwept files file depth steps limit json printed
+      → IsCarriedOut printed.status → IsSweepTold files file depth steps limit json printed
   by_taken (inl a) carried =
       let swept = a.2.2 in
       by_answer a.0 a.2.0 swept.0 a.1 a.2.1 swept.1 (swept.2).0 (swept.2).1 (swept.2).2
@@ -170,7 +171,7 @@ enough (suc p) k m h some step least =
           subst P (let e : p ≡ suc p - 1 = omega arith in e) fits
     ]
 
-at_least : (setup : Setup) (swept : Swept) (verdict : Verdict) (many : ℕ)
+at_least : (setup : SweepSetup) (swept : Swept) (verdict : Verdict) (many : ℕ)
     → CountsChoices setup swept → 1 ≤ many → many ≤ hits_of setup verdict
     → TellsAtLeast swept verdict many
 at_least setup swept verdict many counted some low = record {

@@ -18,9 +18,9 @@ use Rattle.pct_top.specs.declared.refusal.Refusal.TheVariants.{Write, Memory}
 use Rattle.pct_top.specs.declared.command_output.CommandOutput.{CommandOutput}
 use Rattle.pct_top.specs.declared.settings.Settings.{Settings}
 use Rattle.pct_top.specs.declared.test.ReadyTest.{ReadyTest}
-use Rattle.pct_top.specs.Ready.{IsReadyTest}
 use Rattle.pct_top.specs.Ordered.{NamesAll, GivesOrder}
-use Rattle.pct_top.specs.Printed.{Files, Printed, printed_refusal, trace_bytes, directive_bytes}
+use Rattle.pct_top.specs.Printed.{NamedFiles, Printed, printed_refusal, trace_bytes}
+use Rattle.pct_top.specs.Printed.{directive_bytes}
 use Rattle.pct_top.specs.Printed.{OfScript, script_bytes}
 use Rattle.pct_top.specs.Printed.{OfOrder, OfTrace, OfDirective}
 use Rattle.pct_top.specs.Output.{script_file, script_text, OfTaken}
@@ -34,8 +34,8 @@ use Rattle.pct_top.specs.Call.{IsGained, MissesSecond, ReadFailed}
 -- ---- what was read
 
 -- what holds of the bytes that were read holds of the file's first
-pub first_bytes : (told : Option Files) (file : List ℕ) (most : ℕ) (bytes : List ℕ)
-    (P : List ℕ → Type 0) → FirstOf told file most bytes → P bytes → (files : Files)
+pub first_bytes : (told : Option NamedFiles) (file : List ℕ) (most : ℕ) (bytes : List ℕ)
+    (P : List ℕ → Type 0) → FirstOf told file most bytes → P bytes → (files : NamedFiles)
     → told ≡ Some files → P (take most (files file))
 first_bytes told file most bytes P first p =
     λ files e. let is : FirstOf (Some files) file most bytes =
@@ -62,7 +62,8 @@ missed_after name failed middle failed' (Some one) (inl more) is = (
 -- ---- refusals
 
 -- what a failed read has for a cause has another cause
-pub comes_as : (of : Files → Printed → Type 0) (told : Option Files) (missed other : Type 0)
+pub comes_as : (of : NamedFiles → Printed → Type 0) (told : Option NamedFiles)
+    (missed other : Type 0)
     → (missed → other) → (r : Result CommandOutput Refusal) → Comes of told missed r
     → Comes of told other r
 comes_as of told missed other therefore (Ok output) h = h
@@ -75,8 +76,8 @@ comes_as of told missed other therefore (Err Write) h = h
 comes_as of told missed other therefore (Err Memory) h = h
 
 -- what may be printed whatever the files are, where none is read
-pub gives_comes : (of : Files → Printed → Type 0) (told : Option Files) (missed : Type 0)
-    (r : Result CommandOutput Refusal) → ((files : Files) → GivesPrinted (of files) r)
+pub gives_comes : (of : NamedFiles → Printed → Type 0) (told : Option NamedFiles) (missed : Type 0)
+    (r : Result CommandOutput Refusal) → ((files : NamedFiles) → GivesPrinted (of files) r)
     → Comes of told missed r
 gives_comes of told missed (Ok output) h = λ files e. h files
 gives_comes of told missed (Err (Usage word)) h = λ files e. h files
@@ -87,9 +88,9 @@ gives_comes of told missed (Err Read) h = absurd (h (λ name. []))
 gives_comes of told missed (Err Write) h = h (λ name. [])
 gives_comes of told missed (Err Memory) h = tt
 
-module _ (told : Option Files) (file : List ℕ) (names : NameLists)
+module _ (told : Option NamedFiles) (file : List ℕ) (names : NameLists)
     (of : TraceFile → Printed → Type 0) (missed : Type 0) where
-  abbrev OfFile : Files → Printed → Type 0
+  abbrev OfFile : NamedFiles → Printed → Type 0
   OfFile files printed = OfTrace (take trace_bytes (files file)) names of printed
 
   -- there is no trace
@@ -108,9 +109,9 @@ module _ (told : Option Files) (file : List ℕ) (names : NameLists)
       → of trace printed → ShowsFiles OfFile told printed
   trace_shown trace printed has h = λ files e. inl (trace, has.1 files e, h)
 
-module _ (told : Option Files) (file : List ℕ) (names : NameLists)
+module _ (told : Option NamedFiles) (file : List ℕ) (names : NameLists)
     (of : Directive → Printed → Type 0) (missed : Type 0) where
-  abbrev OfPlan : Files → Printed → Type 0
+  abbrev OfPlan : NamedFiles → Printed → Type 0
   OfPlan files printed = OfDirective (take directive_bytes (files file)) names of printed
 
   -- there is no directive
@@ -132,9 +133,9 @@ module _ (told : Option Files) (file : List ℕ) (names : NameLists)
 
 -- ---- an order, and what comes after it
 
-module _ (told : Option Files) (names : NameLists) (items : List (List ℕ)) (word : ℕ)
-    (of : Files → List ℕ → Printed → Type 0) (missed : Type 0) where
-  abbrev OfOrdered : Files → Printed → Type 0
+module _ (told : Option NamedFiles) (names : NameLists) (items : List (List ℕ)) (word : ℕ)
+    (of : NamedFiles → List ℕ → Printed → Type 0) (missed : Type 0) where
+  abbrev OfOrdered : NamedFiles → Printed → Type 0
   OfOrdered files printed = OfOrder names items word (of files) printed
 
   -- the names give no order
@@ -172,9 +173,9 @@ module _ (told : Option Files) (names : NameLists) (items : List (List ℕ)) (wo
 
 -- ---- a command over its script
 
-module _ (told : Option Files) (source : Files → List ℕ)
-    (over : Files → ScriptText → Deal → Printed → Type 0) (missed : Type 0) where
-  abbrev Of : Files → Printed → Type 0
+module _ (told : Option NamedFiles) (source : NamedFiles → List ℕ)
+    (over : NamedFiles → ScriptText → Deal → Printed → Type 0) (missed : Type 0) where
+  abbrev Of : NamedFiles → Printed → Type 0
   Of files printed = OfScript (source files) (over files) printed
 
   -- there is no test
@@ -189,14 +190,13 @@ module _ (told : Option Files) (source : Files → List ℕ)
   comes_untested m therefore Memory h = tt
 
   module _ (test : ReadyTest)
-      (spells : HasText told source (λ bytes. Spells bytes (plain_script test.script)))
-      (ready : IsReadyTest test) where
+      (spells : HasText told source (λ bytes. Spells bytes (plain_script test.script))) where
     shown : (printed : Printed)
         → ShowsFiles (λ files. over files (plain_script test.script) test.deal) told
         printed → ShowsFiles Of told printed
     shown printed h =
         λ files e. inl
-        (plain_script test.script, spells files e, (test.deal, ready.is_deal, h files e))
+        (plain_script test.script, spells files e, (test.deal, test.is_ready.is_deal, h files e))
 
     pub comes_tested : (missed_second : Type 0) → (missed_second → missed)
         → (r : Result CommandOutput Refusal)
@@ -216,19 +216,19 @@ module _ (told : Option Files) (source : Files → List ℕ)
 -- ---- the same where no file is read
 
 -- what is given for some files comes where these are told
-pub told_comes : (of : Files → Printed → Type 0) (files : Files) (missed : Type 0)
+pub told_comes : (of : NamedFiles → Printed → Type 0) (files : NamedFiles) (missed : Type 0)
     (r : Result CommandOutput Refusal) → GivesPrinted (of files) r → Comes of (Some files) missed r
 told_comes of files missed (Ok output) h = λ told e. let same : files ≡ told = cc in
-    subst (λ (f : Files). of f (printed_of output)) same h
+    subst (λ (f : NamedFiles). of f (printed_of output)) same h
 told_comes of files missed (Err (Usage word)) h = λ told e. let same : files ≡ told = cc in
-    subst (λ (f : Files). of f (printed_refusal (Usage word))) same h
+    subst (λ (f : NamedFiles). of f (printed_refusal (Usage word))) same h
 told_comes of files missed (Err (Script line kind)) h = λ told e. let same : files ≡ told = cc in
-    subst (λ (f : Files). of f (printed_refusal (Script line kind))) same h
+    subst (λ (f : NamedFiles). of f (printed_refusal (Script line kind))) same h
 told_comes of files missed (Err (Trace line kind)) h = λ told e. let same : files ≡ told = cc in
-    subst (λ (f : Files). of f (printed_refusal (Trace line kind))) same h
+    subst (λ (f : NamedFiles). of f (printed_refusal (Trace line kind))) same h
 told_comes of files missed (Err (BadDirective line kind)) h = λ told e.
     let same : files ≡ told = cc in
-    subst (λ (f : Files). of f (printed_refusal (BadDirective line kind))) same h
+    subst (λ (f : NamedFiles). of f (printed_refusal (BadDirective line kind))) same h
 told_comes of files missed (Err Read) h = absurd h
 told_comes of files missed (Err Write) h = h
 told_comes of files missed (Err Memory) h = tt
@@ -244,11 +244,10 @@ module _ (source : List ℕ) (over : ScriptText → Deal → Printed → Type 0)
   given_untested Write h = absurd h
   given_untested Memory h = tt
 
-  module _ (test : ReadyTest) (spells : Spells source (plain_script test.script))
-      (ready : IsReadyTest test) where
+  module _ (test : ReadyTest) (spells : Spells source (plain_script test.script)) where
     given : (printed : Printed) → over (plain_script test.script) test.deal printed
         → OfScript source over printed
-    given printed h = inl (plain_script test.script, spells, (test.deal, ready.is_deal, h))
+    given printed h = inl (plain_script test.script, spells, (test.deal, test.is_ready.is_deal, h))
 
     pub given_tested : (r : Result CommandOutput Refusal)
         → GivesPrinted (over (plain_script test.script) test.deal) r
@@ -289,12 +288,12 @@ second_missed settings before after middle script spells keeps h =
 module _ (settings : Settings) (name : List ℕ) (file_is : script_file settings ≡ Some name) where
   -- what is read is what the settings ask for
   pub file_gives : script_text settings ≡ (λ files. take script_bytes (files name))
-      → (told : Option Files) (failed failed' : List (List ℕ)) (r : Result ReadyTest Refusal)
+      → (told : Option NamedFiles) (failed failed' : List (List ℕ)) (r : Result ReadyTest Refusal)
       → GivesTest told (λ files. take script_bytes (files name))
       (Misses (Some name) failed failed') r
       → GivesTest told (script_text settings) (Misses (script_file settings) failed failed') r
   file_gives text_is told failed failed' r h =
-      subst (λ (source : Files → List ℕ).
+      subst (λ (source : NamedFiles → List ℕ).
       GivesTest told source (Misses (script_file settings) failed failed') r) (sym text_is)
       (subst (λ (file : Option (List ℕ)).
       GivesTest told (λ files. take script_bytes (files name)) (Misses file failed failed') r)

@@ -27,7 +27,7 @@ use Rattle.pct_top.specs.declared.refusal.Refusal.TheVariants.{Directive as BadD
 use Rattle.pct_top.specs.declared.settings.Report.TheVariants.{Trace}
 use Rattle.pct_top.specs.declared.settings.Settings.TheVariants.{RunOrder, RunSeed, Expose}
 use Rattle.pct_top.specs.Settings.{SettingsOrWord, settings}
-use Rattle.pct_top.specs.Printed.{Files, Printed, printed_text, script_bytes, trace_bytes}
+use Rattle.pct_top.specs.Printed.{NamedFiles, Printed, printed_text, script_bytes, trace_bytes}
 use Rattle.pct_top.specs.Runs.{run_of, is_passed, file_of_run, trace_of_run, TellsRun}
 use Rattle.pct_top.specs.commands.Run.{PrintsTrace}
 use Rattle.pct_top.specs.commands.Replay.{printed_reply}
@@ -43,7 +43,7 @@ use Rattle.pct_top.specs.Confirmed.{ExposesFile, TellsLong, ExposedAreConfirmed}
 use Rattle.pct_top.proofs.Refusals.{not_refused}
 
 -- what the law says of one output
-abbrev IsSo : Files → List ℕ → Printed → Type 0
+abbrev IsSo : NamedFiles → List ℕ → Printed → Type 0
 IsSo files file printed = IsConfirmedTrace files file printed.out
 
 module _ (script : ScriptText) (deal : Deal) (of : IsDealOf script deal) (order points : List ℕ)
@@ -84,7 +84,7 @@ module _ (script : ScriptText) (deal : Deal) (of : IsDealOf script deal) (order 
       (sym (append-nil (line_text (codes "confirmed"
       ∷ verdict_words (named_verdict script.names ended.1)))))
 
-  confirms : (files : Files) (name : List ℕ) → Spells (take script_bytes (files name)) script
+  confirms : (files : NamedFiles) (name : List ℕ) → Spells (take script_bytes (files name)) script
       → IsSo files name printed
   confirms files name spells = (
     script,
@@ -113,13 +113,13 @@ module _ (script : ScriptText) (deal : Deal) (of : IsDealOf script deal) (order 
 
 traced_so : (script : ScriptText) (deal : Deal) → IsDealOf script deal → (order points : List ℕ)
     (limit : ℕ) (printed : Printed) → PrintsTrace script deal order points limit printed
-    → (files : Files) (name : List ℕ) → Spells (take script_bytes (files name)) script
+    → (files : NamedFiles) (name : List ℕ) → Spells (take script_bytes (files name)) script
     → IsSo files name printed
 traced_so script deal of order points limit printed prints =
     confirms script deal of order points limit printed prints.0 (is_passed (prints.0).1) prints.1
     prints.2
 
-by_taken : (taken : SettingsOrWord) (files : Files) (printed : Printed) (name : List ℕ)
+by_taken : (taken : SettingsOrWord) (files : NamedFiles) (printed : Printed) (name : List ℕ)
     → RunsFile taken name
     → OfTaken taken files printed → IsCarriedOut printed.status → IsSo files name printed
 by_taken (Ok (RunOrder file order word points limit Trace)) files printed name same (inl of)
@@ -145,7 +145,7 @@ runs_confirmed words files printed name same of answers =
 
 exposed_so : (script : ScriptText) (deal : Deal) → IsDealOf script deal → (order : List ℕ)
     (limit : ℕ) (verdict : Verdict) (exposed : Exposed) (printed : Printed)
-    → TellsExposed script deal order limit verdict exposed printed → (files : Files)
+    → TellsExposed script deal order limit verdict exposed printed → (files : NamedFiles)
     (name : List ℕ) → Spells (take script_bytes (files name)) script
     → TellsLong printed ⊎ IsSo files name printed
 exposed_so script deal of order limit verdict (Points points played) printed tells files name
@@ -155,7 +155,7 @@ exposed_so script deal of order limit verdict (Points points played) printed tel
 exposed_so script deal of order limit verdict (TooLong many) printed tells files name spells =
     inl (many, tells)
 
-exposed_by : (taken : SettingsOrWord) (files : Files) (printed : Printed) (name : List ℕ)
+exposed_by : (taken : SettingsOrWord) (files : NamedFiles) (printed : Printed) (name : List ℕ)
     → ExposesFile taken name → OfTaken taken files printed → IsCarriedOut printed.status
     → TellsLong printed ⊎ IsSo files name printed
 exposed_by (Ok (Expose file directive order word steps limit)) files printed name same (inl of)

@@ -21,11 +21,11 @@ use Rattle.pct_top.specs.declared.settings.Settings.TheVariants.{Certify}
 use Rattle.pct_top.specs.declared.status.Status.{Status}
 use Rattle.pct_top.specs.declared.status.Status.TheVariants.{Done}
 use Rattle.pct_top.specs.Settings.{SettingsOrWord, settings}
-use Rattle.pct_top.specs.Printed.{Files, Printed}
+use Rattle.pct_top.specs.Printed.{NamedFiles, Printed}
 use Rattle.pct_top.specs.Output.{OfTaken}
 use Rattle.pct_top.specs.commands.Certify.{certificate_row_words, bound_words, certificate_text}
 use Rattle.pct_top.specs.commands.Certify.{printed_certificate}
-use Rattle.pct_top.specs.Counted.{CertifiesFile, IsOneIn, TellsBound, IsCounted}
+use Rattle.pct_top.specs.Counted.{CertifiesFile, IsOneIn, TellsBound, IsCountTold}
 use Rattle.pct_top.specs.Counted.{CertifiedAreCounted}
 use Rattle.pct_top.proofs.Refusals.{not_refused}
 
@@ -59,9 +59,10 @@ counted_by script deal of directive steps limit (TooManyThreads threads) is done
 abbrev IsDone : Status → Type 0
 IsDone status = status ≡ Done
 
-by_taken : (taken : SettingsOrWord) (files : Files) (printed : Printed) (file directive : List ℕ)
+by_taken : (taken : SettingsOrWord) (files : NamedFiles) (printed : Printed)
+    (file directive : List ℕ)
     (k limit : ℕ) → CertifiesFile taken file directive k limit → OfTaken taken files printed
-    → printed.status ≡ Done → IsCounted files file directive k limit printed.out
+    → printed.status ≡ Done → IsCountTold files file directive k limit printed.out
 by_taken (Ok (Certify name other steps most serve)) files printed file directive k limit same
     (inl of)
     done = elim of.2.2 [
@@ -70,7 +71,7 @@ by_taken (Ok (Certify name other steps most serve)) files printed file directive
           let is_done = sym (ap (λ (p : Printed). p.status) (plan.2).2) ∙ done in
           let counted = counted_by script of.2.0 of.2.1 plan.0 steps most (plan.2).0 (plan.2).1
           is_done in
-          let whole : IsCounted files name other steps most printed.out = record {
+          let whole : IsCountTold files name other steps most printed.out = record {
             script = script;
             deal = of.2.0;
             plan = plain plan.0;
@@ -83,10 +84,10 @@ by_taken (Ok (Certify name other steps most serve)) files printed file directive
               ap (λ (p : Printed). p.out) (plan.2).2 ∙ counted.1.1,
             );
           } in
-          subst (λ f. IsCounted files f directive k limit printed.out) (sym same.0)
-          (subst (λ d. IsCounted files name d k limit printed.out) (sym same.1)
-          (subst (λ s. IsCounted files name other s limit printed.out) (sym same.2)
-          (subst (λ l. IsCounted files name other steps l printed.out) (sym same.3) whole)))
+          subst (λ f. IsCountTold files f directive k limit printed.out) (sym same.0)
+          (subst (λ d. IsCountTold files name d k limit printed.out) (sym same.1)
+          (subst (λ s. IsCountTold files name other s limit printed.out) (sym same.2)
+          (subst (λ l. IsCountTold files name other steps l printed.out) (sym same.3) whole)))
       | inr bad ↦ absurd (not_refused IsDone (BadDirective bad.0 bad.1) printed bad.3 (λ e. cc)
           done)
     ]

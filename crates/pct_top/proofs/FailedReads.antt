@@ -6,7 +6,7 @@ use Rattle.pct_outside.specs.Reading.{names_with}
 use Rattle.pct_top.specs.declared.status.Status.{Status}
 use Rattle.pct_top.specs.declared.status.Status.TheVariants as statuses
 use Rattle.pct_top.specs.Settings.{SettingsOrWord, settings}
-use Rattle.pct_top.specs.Printed.{Files}
+use Rattle.pct_top.specs.Printed.{NamedFiles}
 use Rattle.pct_top.specs.Outside.{Outside}
 use Rattle.pct_top.specs.Reads.{ReadMade, some_failed}
 use Rattle.pct_top.specs.Call.{AreReads, is_read_fault, IsCall}
@@ -33,7 +33,7 @@ adds_second true second name other names names' well is = absurd cc
 adds_second false true name other names names' well is = (other, is)
 adds_second false false name other names names' well is = is ∙ append-nil names
 
-adds : (taken : SettingsOrWord) (told : Option Files) (reads : List ReadMade)
+adds : (taken : SettingsOrWord) (told : Option NamedFiles) (reads : List ReadMade)
     (names names' : List (List ℕ)) → AreReads taken told reads
     → names' ≡ names ++ failed_names reads → AddsOne (some_failed reads) names names'
 adds taken told [] names names' are is = is ∙ append-nil names

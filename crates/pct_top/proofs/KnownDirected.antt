@@ -9,7 +9,7 @@ use Rattle.rank_now.specs.declared.moment.Moment.{Moment}
 use Rattle.script_tree.specs.ScriptText.{ScriptText}
 use Rattle.script_tree.specs.Fitting.{IsScript}
 use Rattle.script_tree.specs.DealOf.{IsDealOf}
-use Rattle.policy_pick.specs.Plan.{ByPoints, ByEvents}
+use Rattle.policy_pick.specs.Plan.{ByPoints, ByMoments}
 use Rattle.turn_book.specs.Posts.{schedule_of}
 use Rattle.script_body.specs.Bodies.{bodies_of}
 use Rattle.trace_text.specs.Lawful.{IsKnownRun}
@@ -24,7 +24,7 @@ use Rattle.directive_run.specs.declared.answers.Certified.{Certified}
 use Rattle.directive_run.specs.declared.answers.Certified.TheVariants.{Yes, Refuted, TooLong}
 use Rattle.directive_run.specs.declared.answers.Certified.TheVariants.{TooManyThreads}
 use Rattle.pct_top.specs.Runs.{trace_version}
-use Rattle.pct_top.specs.Settings.{ArePoints}
+use Rattle.pct_top.specs.Settings.{AreChangePoints}
 use Rattle.pct_top.specs.commands.KnownCertificate.{IsKnownCertificate}
 use Rattle.pct_top.proofs.KnownRuns.{known-run}
 
@@ -39,7 +39,7 @@ module _ (script : ScriptText) (deal : Deal) (sound : IsScript script)
   known-certificate directive steps limit (Refuted order verdict) is =
       let played = directed-played deal (bodies_of script) order directive.events limit is.made
       verdict (sym is.whole) is.is_directed in
-      let known = known-run script deal sound of (ByEvents order directive.events) limit is.made
+      let known = known-run script deal sound of (ByMoments order directive.events) limit is.made
       verdict (Ends verdict) refl played in
       ((known.end).threads, (known.end).whole)
   known-certificate directive steps limit (TooLong order many) is = tt
@@ -62,7 +62,7 @@ module _ (script : ScriptText) (deal : Deal) (sound : IsScript script)
     many-points = ap length is.points_are
         ∙ length-map events (point_of_moment (schedule_of played.events) steps)
 
-    pub exposed-points : length events ≤ 7 → IsStepCount steps → ArePoints points
+    pub exposed-points : length events ≤ 7 → IsStepCount steps → AreChangePoints points
     exposed-points few fits = (
       omega (arith, many-points, few),
       All-weaker (IsWithin steps) IsStepCount

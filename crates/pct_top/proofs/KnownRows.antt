@@ -17,7 +17,8 @@ use Rattle.priority_draw.proofs.laws.Orders.{order-of-is}
 use Rattle.priority_draw.proofs.laws.Draws.{drawn-are}
 use Rattle.worker_run.specs.Run.{Run}
 use Rattle.worker_run.proofs.laws.WholeRuns.{run-played}
-use Rattle.campaign.specs.Rows.{Setup, run_of_seed, row_of_run, row_of_seed, seed_at, rows_of}
+use Rattle.campaign.specs.Rows.{CampaignSetup, run_of_seed, row_of_run, row_of_seed, seed_at}
+use Rattle.campaign.specs.Rows.{rows_of}
 use Rattle.report_text.specs.Report.{IsWritable}
 use Rattle.pct_top.specs.commands.Campaign.{setup_of}
 use Rattle.pct_top.proofs.KnownRuns.{known-run}
@@ -35,7 +36,7 @@ each-row P row_at each (place ∷ places) (row ∷ rows) same =
 
 module _ (script : ScriptText) (deal : Deal) (sound : IsScript script) (of : IsDealOf script deal)
     (depth steps limit : ℕ) where
-  abbrev setup : Setup
+  abbrev setup : CampaignSetup
   setup = setup_of script deal depth steps limit
 
   whole : (seed : ℕ) → deal.threads ≡ length (draw_of_seed seed deal.threads steps depth).order

@@ -20,17 +20,17 @@ use Rattle.report_text.specs.Report.{IsTellable}
 use Rattle.report_text.specs.declared.frame.Frame.{Frame}
 use Rattle.report_text.specs.declared.swept.SweptGroup.{SweptGroup}
 use Rattle.sweep.specs.Choices.{choice_count}
-use Rattle.sweep.specs.Rows.{Setup, choices_of}
+use Rattle.sweep.specs.Rows.{SweepSetup, choices_of}
 use Rattle.sweep.specs.Swept.{IsSweep, IsFailure, RunsTo}
 use Rattle.sweep.specs.declared.choice.Choice.{Choice}
 use Rattle.sweep.specs.declared.sweeping.Swept.{Swept}
 use Rattle.sweep.proofs.Laws.{sweeps_counted, listed-choice, length-choices}
 use Rattle.pct_top.specs.commands.Campaign.{frame_of}
-use Rattle.pct_top.specs.commands.Sweep.{swept_setup, told_as, told_group, AreTold}
+use Rattle.pct_top.specs.commands.Sweep.{swept_setup, told_as, told_group, AreGroupsTold}
 use Rattle.pct_top.proofs.KnownRuns.{known-run}
 
 -- the first choice of a group is one of all
-first-listed : (setup : Setup) (group : Group) → IsFailure setup group
+first-listed : (setup : SweepSetup) (group : Group) → IsFailure setup group
     → group.first < choice_count setup.deal.threads setup.steps setup.many
 first-listed setup group is =
     let first = is.first in
@@ -40,7 +40,7 @@ first-listed setup group is =
       length-choices setup.deal.threads setup.steps setup.many,
     )
 
-pub first-choices : (setup : Setup) (swept : Swept) → IsSweep setup swept
+pub first-choices : (setup : SweepSetup) (swept : Swept) → IsSweep setup swept
     → All (λ group. group.first < choice_count setup.deal.threads setup.steps setup.many)
     swept.groups
 first-choices setup swept is =
@@ -50,7 +50,7 @@ first-choices setup swept is =
 
 module _ (script : ScriptText) (deal : Deal) (sound : IsScript script) (of : IsDealOf script deal)
     (depth steps limit : ℕ) where
-  abbrev setup : Setup
+  abbrev setup : SweepSetup
   setup = swept_setup script deal depth steps limit
 
   abbrev frame : Frame
@@ -83,18 +83,18 @@ module _ (script : ScriptText) (deal : Deal) (sound : IsScript script) (of : IsD
       subst (IsTellable script.names) same (choice-known group first.0 first.2 first.1 first.3)
 
   all-known : (groups : List Group) (told : List SweptGroup) → All (IsFailure setup) groups
-      → AreTold frame groups told → All (IsTellable script.names) told
+      → AreGroupsTold frame groups told → All (IsTellable script.names) told
   all-known [] [] each are = All-nil (IsTellable script.names)
   all-known [] (t ∷ told) each are = absurd cc
   all-known (group ∷ groups) [] each are = absurd cc
   all-known (group ∷ groups) (t ∷ told) each are =
       let here : told_group frame group ≡ Some t = cc in
-      let rest : AreTold frame groups told = cc in
+      let rest : AreGroupsTold frame groups told = cc in
       All-cons (IsTellable script.names) t told
       (group-known group t (All-head (IsFailure setup) group groups each) here)
       (all-known groups told (All-tail (IsFailure setup) group groups each) rest)
 
   pub told-known : (swept : Swept) (told : List SweptGroup) → IsSweep setup swept
-      → AreTold frame swept.groups told → All (IsTellable script.names) told
+      → AreGroupsTold frame swept.groups told → All (IsTellable script.names) told
   told-known swept told is are =
       all-known swept.groups told (sweeps_counted setup swept is).each are

@@ -3,7 +3,7 @@ use Rattle.std.proofs.Common.{◌≡◌, ℕ, List, Bool, Option, sym, subst, ap
 use Rattle.pct_ask.specs.declared.Deal.{Deal}
 use Rattle.pct_ask.specs.declared.event.Row.{Row}
 use Rattle.script_tree.specs.ScriptText.{ScriptText}
-use Rattle.campaign.specs.Rows.{Setup}
+use Rattle.campaign.specs.Rows.{CampaignSetup}
 use Rattle.campaign.proofs.laws.OneCampaign.{one_campaign}
 use Rattle.failure_rank.specs.declared.group.Group.{Group}
 use Rattle.failure_rank.specs.Groups.{IsRanking}
@@ -19,7 +19,7 @@ pub record AreOne (rows others : List Row) (groups more : List Group) : Type 0 w
   pub rows_are : rows ≡ others
   pub groups_are : groups ≡ more
 
-pub of_seeds_once : (setup : Setup) (first count : ℕ) (rows others : List Row)
+pub of_seeds_once : (setup : CampaignSetup) (first count : ℕ) (rows others : List Row)
     (groups more : List Group) → AreOfSeeds setup first count rows groups
     → AreOfSeeds setup first count others more → AreOne rows others groups more
 of_seeds_once setup first count rows others groups more a b =

@@ -8,7 +8,7 @@ use Rattle.pct_top.specs.declared.settings.Settings.TheVariants.{RunOrder, RunSe
 use Rattle.pct_top.specs.declared.settings.Settings.TheVariants.{Replay, Expose, Certify, Sweep}
 use Rattle.pct_top.specs.Settings.{SettingsOrWord}
 use Rattle.pct_top.specs.Ordered.{OrderFits}
-use Rattle.pct_top.specs.Printed.{Files, Printed, trace_bytes, directive_bytes}
+use Rattle.pct_top.specs.Printed.{NamedFiles, Printed, trace_bytes, directive_bytes}
 use Rattle.pct_top.specs.Output.{script_text, order_given, SecondFits, OfCommand, OfTaken}
 use Rattle.pct_top.specs.Call.{IsCarriedOut, CanRun}
 use Rattle.pct_top.proofs.Work.{one_of_script, script_fits}
@@ -22,7 +22,7 @@ use Rattle.pct_top.proofs.OneSweep.{sweep_once, sweep_answers}
 
 -- ---- the commands
 
-one_command : (settings : Settings) (files : Files) (script : ScriptText) (deal : Deal)
+one_command : (settings : Settings) (files : NamedFiles) (script : ScriptText) (deal : Deal)
     (p q : Printed) → AreNames script.names → OfCommand settings files script deal p
     → OfCommand settings files script deal q → p ≡ q
 one_command (RunOrder file order word points limit report) files script deal p q are =
@@ -42,7 +42,7 @@ one_command (Sweep file depth steps limit json serve) files script deal p q are 
     sweep_once script deal depth steps limit json p q
 
 -- what fits is carried out
-command_answers : (settings : Settings) (files : Files) (script : ScriptText) (deal : Deal)
+command_answers : (settings : Settings) (files : NamedFiles) (script : ScriptText) (deal : Deal)
     (p : Printed) → AreNames script.names → OrderFits script.names (order_given settings)
     → SecondFits settings files script → OfCommand settings files script deal p
     → IsCarriedOut p.status
@@ -67,14 +67,16 @@ command_answers (Sweep file depth steps limit json serve) files script deal p ar
 
 -- ---- a call
 
-pub one_printed : (taken : SettingsOrWord) (files : Files) (p q : Printed) → OfTaken taken files p
+pub one_printed : (taken : SettingsOrWord) (files : NamedFiles) (p q : Printed)
+    → OfTaken taken files p
     → OfTaken taken files q → p ≡ q
 one_printed (Ok settings) files p q a b =
     one_of_script (script_text settings files) (OfCommand settings files)
     (one_command settings files) p q a b
 one_printed (Err number) files p q a b = a ∙ sym b
 
-pub printed_answers : (taken : SettingsOrWord) (files : Files) (p : Printed) → CanRun taken files
+pub printed_answers : (taken : SettingsOrWord) (files : NamedFiles) (p : Printed)
+    → CanRun taken files
     → OfTaken taken files p → IsCarriedOut p.status
 printed_answers (Ok settings) files p can a =
     script_fits (script_text settings files) (OfCommand settings files)

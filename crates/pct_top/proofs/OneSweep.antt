@@ -10,7 +10,7 @@ use Rattle.failure_rank.proofs.Laws.{one_ranking}
 use Rattle.pct_ask.specs.declared.verdict.Verdict.TheVariants.{Passed}
 use Rattle.report_text.specs.declared.frame.Frame.{Frame}
 use Rattle.report_text.specs.declared.swept.SweptGroup.{SweptGroup}
-use Rattle.sweep.specs.Rows.{Setup}
+use Rattle.sweep.specs.Rows.{SweepSetup}
 use Rattle.sweep.specs.Swept.{Sweeps, IsSweep}
 use Rattle.sweep.specs.declared.sweeping.Swept.{Swept}
 use Rattle.sweep.specs.declared.sweeping.Answer.{Answer}
@@ -33,7 +33,7 @@ all-some {A = A} (x ∷ xs) (y ∷ ys) same =
     let rest : map Some xs ≡ map Some ys = cc in
     λ i. here i ∷ all-some xs ys rest i
 
-one_sweep : (setup : Setup) (one other : Swept) → IsSweep setup one → IsSweep setup other
+one_sweep : (setup : SweepSetup) (one other : Swept) → IsSweep setup one → IsSweep setup other
     → one ≡ other
 one_sweep setup one other a b =
     let rows : a.rows ≡ b.rows = all-some a.rows b.rows (a.are ∙ sym b.are) in
@@ -45,7 +45,7 @@ one_sweep setup one other a b =
     let choices : one.choices ≡ other.choices = a.choices ∙ sym b.choices in
     λ i. record { choices = choices i; passed = passed i; groups = groups i }
 
-one_answer : (setup : Setup) (one other : Answer) → Sweeps setup one → Sweeps setup other
+one_answer : (setup : SweepSetup) (one other : Answer) → Sweeps setup one → Sweeps setup other
     → one ≡ other
 one_answer setup (Whole one) (Whole other) a b = ap Whole (one_sweep setup one other a.1 b.1)
 one_answer setup (Whole one) TooMany a b = absurd (omega (arith, a.0, b))

@@ -25,7 +25,7 @@ use Rattle.pct_top.specs.Values.{items_of, points_in, pieces_in}
 use Rattle.pct_ask.specs.declared.limits.TheConstants.{MAX_POINTS}
 use Rattle.pct_top.specs.Options.{no_options, next_option, with_option_value, options_from}
 use Rattle.pct_top.specs.Settings as settings
-use Rattle.pct_top.specs.Settings.{ArePoints, AreLawful}
+use Rattle.pct_top.specs.Settings.{AreChangePoints, AreLawful}
 use Rattle.pct_top.proofs.Followed.{mapped, chained, followed, behind, or_word, any}
 
 -- ---- values
@@ -52,11 +52,11 @@ counted (item ∷ items) = by (step_count item) (bounded 1 100000 item) (counted
         mapped (AreCounts (item ∷ items)) _ (step_counts items) are
         (λ ns are. (ap suc are.0, All-cons IsStepCount n ns fits are.1))
 
-points_fit : (value : List ℕ) → IfSome (points_in value) ArePoints
+points_fit : (value : List ℕ) → IfSome (points_in value) AreChangePoints
 points_fit value = by (nat_le (length (items_of value)) MAX_POINTS) refl
   where
     by : (few : Bool) → nat_le (length (items_of value)) MAX_POINTS ≡ few
-        → IfSome (cond few (step_counts (items_of value)) None) ArePoints
+        → IfSome (cond few (step_counts (items_of value)) None) AreChangePoints
     by false test = tt
     by true test = IfSome_then (step_counts (items_of value)) (counted (items_of value))
         (λ ns are. (grind (arith, nat_tests, are.0), are.1))
@@ -66,7 +66,8 @@ points_fit value = by (nat_le (length (items_of value)) MAX_POINTS) refl
 -- what has a range is in it: the points, the limit, the depth, the steps and the count
 abbrev AreInRange : Options → Type 0
 AreInRange o =
-    ArePoints (unwrap_or o.points []) × IsStepCount (settings.limit_of o) × IfSome o.depth IsDepth
+    AreChangePoints (unwrap_or o.points []) × IsStepCount (settings.limit_of o)
+    × IfSome o.depth IsDepth
     × IfSome o.steps IsStepCount × IfSome o.count IsStepCount
 
 module _ (o : Options) (r : AreInRange o) where

@@ -4,7 +4,7 @@ use Rattle.pct_top.specs.declared.job.Job.{Job}
 use Rattle.pct_top.specs.declared.job.Job.TheVariants.{Ordered, Seeded, Campaign, Replay, Expose}
 use Rattle.pct_top.specs.declared.job.Job.TheVariants.{Certify, Sweep}
 use Rattle.pct_top.specs.Plan.{asked}
-use Rattle.pct_top.specs.Printed.{Files, script_bytes}
+use Rattle.pct_top.specs.Printed.{NamedFiles, script_bytes}
 use Rattle.pct_top.specs.Output.{script_file, script_text}
 
 pub asked_file : (file : List ℕ) (job : Job) → script_file (asked file job) ≡ Some file
@@ -17,7 +17,7 @@ asked_file file (Certify certify) = refl
 asked_file file (Sweep sweep) = refl
 
 pub asked_text : (file : List ℕ) (job : Job)
-    → script_text (asked file job) ≡ (λ (files : Files). take script_bytes (files file))
+    → script_text (asked file job) ≡ (λ (files : NamedFiles). take script_bytes (files file))
 asked_text file (Ordered run) = refl
 asked_text file (Seeded run) = refl
 asked_text file (Campaign campaign) = refl

@@ -21,7 +21,7 @@ use Rattle.pct_top.specs.Refusing.{status_of_refusal}
 use Rattle.pct_top.specs.Output.{script_file, script_text, order_given, second_file}
 use Rattle.pct_top.specs.Files.{HasText}
 use Rattle.pct_outside.specs.Told.{ShelfTold, StreamTold}
-use Rattle.pct_top.specs.Reads.{ReadMade, is_read, is_unread, KeepsFile, KeepsSecond}
+use Rattle.pct_top.specs.Reads.{ReadMade, is_read, is_missed, KeepsFile, KeepsSecond}
 use Rattle.pct_top.specs.Call.{LeavesShelf, PutsOutput, RefusedFirst, IsCarriedOut}
 use Rattle.pct_top.specs.Call.{is_read_fault}
 
@@ -114,7 +114,7 @@ module _ (asked : Settings) (unread : Bool) (before after : ShelfTold)
 
 -- what is put is no read
 pub put_is_read : (printed : Printed) (before after : StreamTold) (r : Result Status Refusal)
-    → PutsOutput printed before after r → is_unread r ≡ false
+    → PutsOutput printed before after r → is_missed r ≡ false
 put_is_read printed before after (Ok status) h = refl
 put_is_read printed before after (Err (Usage word)) h = absurd h
 put_is_read printed before after (Err (Script line kind)) h = absurd h
@@ -126,7 +126,7 @@ put_is_read printed before after (Err Memory) h = refl
 
 -- what is printed is no read
 pub given_is_read : (of : Printed → Type 0) (r : Result CommandOutput Refusal) → GivesPrinted of r
-    → is_unread r ≡ false
+    → is_missed r ≡ false
 given_is_read of (Ok output) h = refl
 given_is_read of (Err (Usage word)) h = refl
 given_is_read of (Err (Script line kind)) h = refl
@@ -138,7 +138,7 @@ given_is_read of (Err Memory) h = refl
 
 -- words that are refused are no read
 pub words_are_read : (number : ℕ) (r : Result Status Refusal) → RefusedFirst (Err number) r
-    → is_unread r ≡ false
+    → is_missed r ≡ false
 words_are_read number (Ok status) h = refl
 words_are_read number (Err (Usage word)) h = refl
 words_are_read number (Err (Script line kind)) h = absurd h

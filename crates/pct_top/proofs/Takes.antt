@@ -38,7 +38,7 @@ use Rattle.pct_top.specs.declared.status.Status.TheVariants.{Done, Found}
 use Rattle.pct_top.specs.Settings.{SettingsOrWord, settings}
 use Rattle.pct_top.specs.Ordered.{threads_named, NamesAll}
 use Rattle.pct_top.specs.Runs.{printed_trace}
-use Rattle.pct_top.specs.Printed.{Files, Printed, script_bytes, directive_bytes, OfDirective}
+use Rattle.pct_top.specs.Printed.{NamedFiles, Printed, script_bytes, directive_bytes, OfDirective}
 use Rattle.pct_top.specs.Output.{OfTaken, OfCommand}
 use Rattle.pct_top.specs.commands.Find.{plan_of, IsWellFormed, printed_finding}
 use Rattle.pct_top.specs.commands.Expose.{TellsExposed, PrintsExposed, OfExpose}
@@ -117,9 +117,10 @@ module _ (script : ScriptText) (deal : Deal) (of : IsDealOf script deal) (order 
       exposed_done by.0 by.1 printed (by.2).0 (by.2).1 (by.2).2
 
   -- the words ask for it, over files that have the script and the directive
-  later_done : (files : Files) (file text : List ℕ) → Spells (take script_bytes (files file)) script
+  later_done : (files : NamedFiles) (file text : List ℕ)
+      → Spells (take script_bytes (files file)) script
       → IsDirective text script.names plan
-      → (taken : SettingsOrWord) (later : Files) (other : List ℕ)
+      → (taken : SettingsOrWord) (later : NamedFiles) (other : List ℕ)
       → ExposesIn taken file other (map (thread_name script.names) order) k limit
       → later file ≡ files file → later other ≡ text → (printed : Printed)
       → OfTaken taken later printed → printed.status ≡ Done
@@ -151,7 +152,8 @@ module _ (script : ScriptText) (deal : Deal) (of : IsDealOf script deal) (order 
 
 -- ---- what is found
 
-module _ (taken : SettingsOrWord) (files : Files) (file : List ℕ) (limit : ℕ) (script : ScriptText)
+module _ (taken : SettingsOrWord) (files : NamedFiles) (file : List ℕ) (limit : ℕ)
+    (script : ScriptText)
     (deal : Deal) (of : IsDealOf script deal)
     (spells : Spells (take script_bytes (files file)) script)
     (order : List ℕ) (once : IsOrder order)
@@ -189,7 +191,8 @@ module _ (taken : SettingsOrWord) (files : Files) (file : List ℕ) (limit : ℕ
 abbrev IsFinding : Status → Type 0
 IsFinding status = status ≡ Found
 
-by_taken : (taken : SettingsOrWord) (files : Files) (printed : Printed) (file : List ℕ) (limit : ℕ)
+by_taken : (taken : SettingsOrWord) (files : NamedFiles) (printed : Printed) (file : List ℕ)
+    (limit : ℕ)
     → FindsIn taken file limit → OfTaken taken files printed → printed.status ≡ Found
     → IsTakenUp taken files file printed.out limit
 by_taken (Ok (RunOrder name items word points most Find)) files printed file limit same (inl of)

@@ -16,7 +16,7 @@ use Rattle.pct_top.specs.declared.status.Status.TheVariants as statuses
 use Rattle.pct_top.specs.Settings.{SettingsOrWord, settings}
 use Rattle.pct_top.specs.Refusing.{refusal_line}
 use Rattle.pct_top.specs.Ordered.{OrderFits}
-use Rattle.pct_top.specs.Printed.{Files, Printed, printed_refusal}
+use Rattle.pct_top.specs.Printed.{NamedFiles, Printed, printed_refusal}
 use Rattle.pct_top.specs.Output.{script_file, script_text, order_given, second_file, SecondFits}
 use Rattle.pct_top.specs.Output.{OfTaken, Output}
 use Rattle.pct_top.specs.CommandOutput.{ShowsFiles}
@@ -44,14 +44,15 @@ ReadsSecond (Ok settings) name = second_file settings ≡ Some name
 ReadsSecond (Err number) name = ⊥
 
 -- the text spells a script, and the order that the words give, if any, fits
-abbrev pub ComesToSecond : Settings → Files → Type 0
+abbrev pub ComesToSecond : Settings → NamedFiles → Type 0
 ComesToSecond settings files =
     (script : ScriptText) × Spells (script_text settings files) script
     × OrderFits script.names (order_given settings)
 
 -- The order of work comes to the second file. This is said where the files are told.
-abbrev pub IsReached : SettingsOrWord → Option Files → Type 0
-IsReached (Ok settings) told = (files : Files) → told ≡ Some files → ComesToSecond settings files
+abbrev pub IsReached : SettingsOrWord → Option NamedFiles → Type 0
+IsReached (Ok settings) told = (files : NamedFiles) → told ≡ Some files
+    → ComesToSecond settings files
 IsReached (Err number) told = ⊥
 
 -- the name of a file that the call reads was added to those of the failed reads
@@ -74,7 +75,7 @@ ReadsNone (Err number) = Unit {0}
 
 -- The reads that a call makes: at most that of the script, and then, where that didn't fail and the
 -- order of work comes to it, at most that of the second file.
-abbrev pub AreReads : SettingsOrWord → Option Files → List ReadMade → Type 0
+abbrev pub AreReads : SettingsOrWord → Option NamedFiles → List ReadMade → Type 0
 AreReads taken told [] = Unit {0}
 AreReads taken told (script ∷ []) = ReadsScript taken script.name
 AreReads taken told (script ∷ second ∷ []) =
@@ -101,9 +102,9 @@ IsCarriedOut statuses.Found = Unit {0}
 IsCarriedOut status = ⊥
 
 -- where the files are told, what is printed for the words has this
-abbrev pub PrintsOne : SettingsOrWord → Option Files → (Printed → Type 0) → Type 0
+abbrev pub PrintsOne : SettingsOrWord → Option NamedFiles → (Printed → Type 0) → Type 0
 PrintsOne taken told has =
-    (files : Files) → told ≡ Some files
+    (files : NamedFiles) → told ≡ Some files
     → (printed : Printed) × OfTaken taken files printed × has printed
 
 -- the output was put whole, and nothing is to be said on the error stream
@@ -138,35 +139,36 @@ RefusedFirst (Err number) (Err Memory) = Unit {0}
 RefusedFirst (Err number) answer = ⊥
 
 -- nothing is put, and this refusal may be printed
-abbrev pub ShowsRefusal : SettingsOrWord → Option Files → StreamTold → StreamTold → Refusal → Type 0
+abbrev pub ShowsRefusal : SettingsOrWord → Option NamedFiles → StreamTold → StreamTold → Refusal
+    → Type 0
 ShowsRefusal taken told before after refusal =
     (after ≡ before) × ShowsFiles (OfTaken taken) told (printed_refusal refusal)
 
 -- The answer of a call: what it does to the shelf, and to the output.
-abbrev pub Answers :
+abbrev pub AnswersCall :
     SettingsOrWord → ShelfTold → ShelfTold → StreamTold → StreamTold → Result Status Refusal
     → Type 0
-Answers taken shelf shelf' before after (Ok status) =
+AnswersCall taken shelf shelf' before after (Ok status) =
     IsCarriedOut status × PrintsOne taken shelf.files (PutsAll before after status)
-Answers taken shelf shelf' before after (Err (Usage n)) =
+AnswersCall taken shelf shelf' before after (Err (Usage n)) =
     ShowsRefusal taken shelf.files before after (Usage n)
-Answers taken shelf shelf' before after (Err (Script line kind)) =
+AnswersCall taken shelf shelf' before after (Err (Script line kind)) =
     ShowsRefusal taken shelf.files before after (Script line kind)
-Answers taken shelf shelf' before after (Err (Trace line kind)) =
+AnswersCall taken shelf shelf' before after (Err (Trace line kind)) =
     ShowsRefusal taken shelf.files before after (Trace line kind)
-Answers taken shelf shelf' before after (Err (Directive line kind)) =
+AnswersCall taken shelf shelf' before after (Err (Directive line kind)) =
     ShowsRefusal taken shelf.files before after (Directive line kind)
-Answers taken shelf shelf' before after (Err Read) =
+AnswersCall taken shelf shelf' before after (Err Read) =
     (after ≡ before) × ReadFailed taken shelf shelf'
-Answers taken shelf shelf' before after (Err Write) =
+AnswersCall taken shelf shelf' before after (Err Write) =
     IsRefusing before after × PrintsOne taken shelf.files (PutsPart before after)
-Answers taken shelf shelf' before after (Err Memory) =
+AnswersCall taken shelf shelf' before after (Err Memory) =
     (after ≡ before) ⊎ PrintsOne taken shelf.files (PutsPart before after)
 
 -- ---- the whole call, by its status
 
 -- the files are in their grammars, and an order fits
-abbrev pub CanRun : SettingsOrWord → Files → Type 0
+abbrev pub CanRun : SettingsOrWord → NamedFiles → Type 0
 CanRun (Ok settings) files =
     (script : ScriptText) × Spells (script_text settings files) script
     × OrderFits script.names (order_given settings) × SecondFits settings files script
@@ -176,7 +178,7 @@ CanRun (Err number) files = ⊥
 -- and no fault of the output give a whole answer, want of memory aside.
 abbrev pub Completes : List (List ℕ) → Outside → Outside → Status → Type 0
 Completes words found left status =
-    (files : Files) → found.shelf.files ≡ Some files → CanRun (settings words) files
+    (files : NamedFiles) → found.shelf.files ≡ Some files → CanRun (settings words) files
     → ((name : List ℕ) → ReadsScript (settings words) name ⊎ ReadsSecond (settings words) name
     → ¬ IsGained name found.shelf.failed left.shelf.failed)
     → ¬ IsRefusing found.output left.output → IsCarriedOut status ⊎ (status ≡ statuses.NoMemory)
@@ -208,14 +210,14 @@ Prints found left status printed = PrintsAll found left status printed
 -- Whatever *Output* may print for the words and the files, the call has printed it so.
 abbrev pub IsExact : List (List ℕ) → Outside → Outside → Status → Type 0
 IsExact words found left status =
-    (files : Files) → found.shelf.files ≡ Some files
+    (files : NamedFiles) → found.shelf.files ≡ Some files
     → (printed : Printed) → Output words files printed → Prints found left status printed
 
 -- there is something that *Output* may print for the words and the files, and it is put and said
 -- whole
 abbrev pub PrintsWhole : List (List ℕ) → Outside → Outside → Status → Type 0
 PrintsWhole words found left status =
-    (files : Files) → found.shelf.files ≡ Some files
+    (files : NamedFiles) → found.shelf.files ≡ Some files
     → (printed : Printed) × Output words files printed × PrintsAll found left status printed
 
 -- the words or a file are refused: nothing is put, and a line says why
@@ -250,7 +252,7 @@ is_read_fault statuses.ReadFault = true
 is_read_fault status = false
 
 -- the same, as if the shelf told these files
-abbrev pub with_files : Files → Outside → Outside
+abbrev pub with_files : NamedFiles → Outside → Outside
 with_files files outside = record {
   shelf = record { files = Some files; failed = outside.shelf.failed };
   output = outside.output;
@@ -264,13 +266,12 @@ pub record EndsExactly (words : List (List ℕ)) (found left : Outside) (status 
   pub exact : IsExact words found left status
 
 -- What is promised of a call, whatever the command is. Where no file is read, it ends so whether
--- the
--- files are told or not.
+-- the files are told or not.
 pub record IsCall (words : List (List ℕ)) (found left : Outside) (status : Status) : Type 0 where
   pub ends : Ends words found left status
   pub refused : RefusedWords (settings words) status
   pub complete : Completes words found left status
   pub exact : IsExact words found left status
   pub shelf : LeavesShelf (settings words) (is_read_fault status) found.shelf left.shelf
-  pub unread : ReadsNone (settings words) → (files : Files)
+  pub unread : ReadsNone (settings words) → (files : NamedFiles)
       → EndsExactly words (with_files files found) left status

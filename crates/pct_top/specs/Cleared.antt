@@ -16,7 +16,8 @@ use Rattle.script_body.specs.Bodies.{bodies_of}
 use Rattle.worker_run.specs.declared.serving.Serve.{Serve}
 use Rattle.worker_run.specs.Run.{run}
 use Rattle.choices.specs.Orders.{factorial}
-use Rattle.choices.specs.Laws.{IsOrderOf, ArePoints}
+use Rattle.rank_now.specs.Order.{IsOrderOf}
+use Rattle.choices.specs.Laws.{ArePoints}
 use Rattle.directive.specs.DirectiveText.{DirectiveText}
 use Rattle.directive.specs.Directive.{IsDirective}
 use Rattle.failure_rank.specs.declared.group.Group.{Group}
@@ -27,13 +28,13 @@ use Rattle.sweep.specs.declared.sweeping.Swept.{Swept}
 use Rattle.pct_top.specs.declared.settings.Settings.TheVariants.{Sweep}
 use Rattle.pct_top.specs.declared.status.Status.TheVariants.{Done, Found}
 use Rattle.pct_top.specs.Settings.{settings}
-use Rattle.pct_top.specs.Printed.{Files, Printed, script_bytes, directive_bytes}
+use Rattle.pct_top.specs.Printed.{NamedFiles, Printed, script_bytes, directive_bytes}
 use Rattle.pct_top.specs.Runs.{DrawsFrom}
 use Rattle.pct_top.specs.Output.{Output}
 use Rattle.pct_top.specs.Call.{IsCarriedOut}
 use Rattle.pct_top.specs.Counted.{CertifiesFile}
 use Rattle.pct_top.specs.commands.Campaign.{frame_of}
-use Rattle.pct_top.specs.commands.Sweep.{swept_setup, AreTold, sweep_report, too_many_text}
+use Rattle.pct_top.specs.commands.Sweep.{swept_setup, AreGroupsTold, sweep_report, too_many_text}
 
 -- For every order of the threads, and for every so many points in 1..k, the run passes.
 abbrev pub EveryRunPasses : ScriptText → Deal → ℕ → ℕ → ℕ → Type 0
@@ -48,13 +49,14 @@ pub record TellsChoices (script : ScriptText) (deal : Deal) (depth k limit : ℕ
     (swept : Swept) (out : List ℕ) : Type 0 where
   pub counted : CountsChoices (swept_setup script deal depth k limit) swept
   pub told : List SweptGroup
-  pub are : AreTold (frame_of deal depth k limit) swept.groups told
+  pub are : AreGroupsTold (frame_of deal depth k limit) swept.groups told
   pub text : out ≡ sweep_report json script (frame_of deal depth k limit) swept told
 
 -- The file has a script, with what its threads share, and points are drawn from k steps. Where the
 -- choices aren't too many, they are told, and it is done exactly where every run passes. Where they
 -- are too many, a line says so, and something is found.
-pub record IsSwept (files : Files) (file : List ℕ) (depth : ℕ) (steps : Option ℕ) (limit : ℕ)
+pub record IsSweepTold (files : NamedFiles) (file : List ℕ) (depth : ℕ) (steps : Option ℕ)
+    (limit : ℕ)
     (json : Bool) (printed : Printed) : Type 0 where
   pub script : ScriptText
   pub deal : Deal
@@ -72,10 +74,10 @@ pub record IsSwept (files : Files) (file : List ℕ) (depth : ℕ) (steps : Opti
 -- For all words and files: this is told of a sweep that is carried out.
 abbrev pub SweptAreCleared : Type 0
 SweptAreCleared =
-    (words : List (List ℕ)) (files : Files) (printed : Printed) (file : List ℕ) (depth : ℕ)
+    (words : List (List ℕ)) (files : NamedFiles) (printed : Printed) (file : List ℕ) (depth : ℕ)
     (steps : Option ℕ) (limit : ℕ) (json : Bool) (serve : Serve)
     → settings words ≡ Ok (Sweep file depth steps limit json serve) → Output words files printed
-    → IsCarriedOut printed.status → IsSwept files file depth steps limit json printed
+    → IsCarriedOut printed.status → IsSweepTold files file depth steps limit json printed
 
 -- ---- a certificate beside a sweep
 
@@ -89,7 +91,8 @@ pub record TellsAtLeast (swept : Swept) (verdict : Verdict) (many : ℕ) : Type 
 -- The files have a script and a directive under its names. Where the directive has as many moments
 -- as a choice has points, and the choices aren't too many, the sweep tells at least (n-1)! choices
 -- of its verdict: as many as there are orders in its certificate.
-pub record AgreesWith (files : Files) (file directive : List ℕ) (depth k limit : ℕ) (json : Bool)
+pub record AgreesWith (files : NamedFiles) (file directive : List ℕ) (depth k limit : ℕ)
+    (json : Bool)
     (out : List ℕ) : Type 0 where
   pub script : ScriptText
   pub deal : Deal
@@ -106,7 +109,7 @@ pub record AgreesWith (files : Files) (file directive : List ℕ) (depth k limit
 -- number of steps and limit.
 abbrev pub CertifiedAreSwept : Type 0
 CertifiedAreSwept =
-    (words more : List (List ℕ)) (files : Files) (printed other : Printed)
+    (words more : List (List ℕ)) (files : NamedFiles) (printed other : Printed)
     (file directive : List ℕ) (depth k limit : ℕ) (json : Bool) (serve : Serve)
     → CertifiesFile (settings words) file directive k limit → Output words files printed
     → printed.status ≡ Done

@@ -4,7 +4,7 @@ use Rattle.pct_top.specs.declared.refusal.Refusal.{Refusal}
 use Rattle.pct_top.specs.declared.refusal.Refusal.TheVariants.{Usage, Script, Trace, Directive}
 use Rattle.pct_top.specs.declared.refusal.Refusal.TheVariants.{Read, Write, Memory}
 use Rattle.pct_top.specs.declared.command_output.CommandOutput.{CommandOutput}
-use Rattle.pct_top.specs.Printed.{Files, Printed, printed_refusal, printed_text}
+use Rattle.pct_top.specs.Printed.{NamedFiles, Printed, printed_refusal, printed_text}
 
 -- what is printed for a command's output
 abbrev pub printed_of : CommandOutput → Printed
@@ -22,12 +22,13 @@ GivesPrinted of (Err Write) = ⊥
 GivesPrinted of (Err Memory) = Unit {0}
 
 -- this may be printed, where the files are told
-abbrev pub ShowsFiles : (Files → Printed → Type 0) → Option Files → Printed → Type 0
-ShowsFiles of told printed = (files : Files) → told ≡ Some files → of files printed
+abbrev pub ShowsFiles : (NamedFiles → Printed → Type 0) → Option NamedFiles → Printed → Type 0
+ShowsFiles of told printed = (files : NamedFiles) → told ≡ Some files → of files printed
 
 -- The same where files are read, and a read that fails has this for a cause.
 abbrev pub Comes :
-    (Files → Printed → Type 0) → Option Files → Type 0 → Result CommandOutput Refusal → Type 0
+    (NamedFiles → Printed → Type 0) → Option NamedFiles → Type 0 → Result CommandOutput Refusal
+    → Type 0
 Comes of told missed (Ok output) = ShowsFiles of told (printed_of output)
 Comes of told missed (Err (Usage word)) = ShowsFiles of told (printed_refusal (Usage word))
 Comes of told missed (Err (Script line kind)) =

@@ -12,7 +12,7 @@ use Rattle.trace_text.specs.Trace.{IsTrace}
 use Rattle.pct_top.specs.declared.settings.Report.TheVariants.{Trace}
 use Rattle.pct_top.specs.declared.settings.Settings.TheVariants.{RunOrder, RunSeed, Expose}
 use Rattle.pct_top.specs.Settings.{SettingsOrWord, settings}
-use Rattle.pct_top.specs.Printed.{Files, Printed, script_bytes, printed_text}
+use Rattle.pct_top.specs.Printed.{NamedFiles, Printed, script_bytes, printed_text}
 use Rattle.pct_top.specs.Output.{Output}
 use Rattle.pct_top.specs.commands.Expose.{long_text}
 use Rattle.pct_top.specs.Call.{IsCarriedOut}
@@ -39,14 +39,14 @@ replay_of file trace = codes "replay" ∷ file ∷ trace ∷ []
 
 -- in any files in which the script's name has the same bytes and another name those that were
 -- printed, replaying them is confirmed
-abbrev pub IsConfirmed : Files → List ℕ → List ℕ → ScriptText → Verdict → Type 0
+abbrev pub IsConfirmed : NamedFiles → List ℕ → List ℕ → ScriptText → Verdict → Type 0
 IsConfirmed files file text script verdict =
-    (later : Files) (trace : List ℕ) → later file ≡ files file → later trace ≡ text
+    (later : NamedFiles) (trace : List ℕ) → later file ≡ files file → later trace ≡ text
     → Output (replay_of file trace) later (printed_confirmation script.names verdict)
 
 -- The text is a whole trace of the script in this file with one verdict, and its replay over the
 -- script is confirmed with it.
-abbrev pub IsConfirmedTrace : Files → List ℕ → List ℕ → Type 0
+abbrev pub IsConfirmedTrace : NamedFiles → List ℕ → List ℕ → Type 0
 IsConfirmedTrace files file text =
     (script : ScriptText) × (verdict : Verdict) × Spells (take script_bytes (files file)) script
     × TellsVerdict text script verdict × IsConfirmed files file text script verdict
@@ -54,7 +54,7 @@ IsConfirmedTrace files file text =
 -- For all words and files: what `run` may print, unless it is a refusal, is such a trace.
 abbrev pub RunsAreConfirmed : Type 0
 RunsAreConfirmed =
-    (words : List (List ℕ)) (files : Files) (printed : Printed) (file : List ℕ)
+    (words : List (List ℕ)) (files : NamedFiles) (printed : Printed) (file : List ℕ)
     → RunsFile (settings words) file → Output words files printed → IsCarriedOut printed.status
     → IsConfirmedTrace files file printed.out
 
@@ -71,6 +71,6 @@ TellsLong printed = (many : ℕ) × (printed ≡ printed_text (long_text many) f
 -- may be.
 abbrev pub ExposedAreConfirmed : Type 0
 ExposedAreConfirmed =
-    (words : List (List ℕ)) (files : Files) (printed : Printed) (file : List ℕ)
+    (words : List (List ℕ)) (files : NamedFiles) (printed : Printed) (file : List ℕ)
     → ExposesFile (settings words) file → Output words files printed → IsCarriedOut printed.status
     → TellsLong printed ⊎ IsConfirmedTrace files file printed.out

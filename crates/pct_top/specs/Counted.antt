@@ -16,7 +16,7 @@ use Rattle.choices.specs.Counting.{hits}
 use Rattle.pct_top.specs.declared.settings.Settings.TheVariants.{Certify}
 use Rattle.pct_top.specs.declared.status.Status.TheVariants.{Done}
 use Rattle.pct_top.specs.Settings.{SettingsOrWord, settings}
-use Rattle.pct_top.specs.Printed.{Files, Printed, script_bytes, directive_bytes}
+use Rattle.pct_top.specs.Printed.{NamedFiles, Printed, script_bytes, directive_bytes}
 use Rattle.pct_top.specs.Output.{Output}
 use Rattle.pct_top.specs.commands.Certify.{bound_words}
 
@@ -49,7 +49,7 @@ TellsBound script directive k out =
 
 -- The files have a script, with what its threads share, and a directive under its names; this is
 -- its count, and the bound that the output tells.
-pub record IsCounted (files : Files) (file directive : List ℕ) (k limit : ℕ) (out : List ℕ) :
+pub record IsCountTold (files : NamedFiles) (file directive : List ℕ) (k limit : ℕ) (out : List ℕ) :
     Type 0 where
   pub script : ScriptText
   pub deal : Deal
@@ -64,7 +64,7 @@ pub record IsCounted (files : Files) (file directive : List ℕ) (k limit : ℕ)
 -- that is printed is that of the count.
 abbrev pub CertifiedAreCounted : Type 0
 CertifiedAreCounted =
-    (words : List (List ℕ)) (files : Files) (printed : Printed) (file directive : List ℕ)
+    (words : List (List ℕ)) (files : NamedFiles) (printed : Printed) (file directive : List ℕ)
     (k limit : ℕ)
     → CertifiesFile (settings words) file directive k limit → Output words files printed
-    → printed.status ≡ Done → IsCounted files file directive k limit printed.out
+    → printed.status ≡ Done → IsCountTold files file directive k limit printed.out

@@ -17,11 +17,11 @@ use Rattle.pct_top.specs.declared.refusal.Refusal.TheVariants.{Script, Trace}
 use Rattle.pct_top.specs.declared.refusal.Refusal.TheVariants.{Directive as BadDirective, Read}
 use Rattle.pct_top.specs.declared.refusal.Refusal.TheVariants.{Memory}
 use Rattle.pct_top.specs.declared.test.ReadyTest.{ReadyTest}
-use Rattle.pct_top.specs.Printed.{Files, trace_bytes, directive_bytes}
+use Rattle.pct_top.specs.Printed.{NamedFiles, trace_bytes, directive_bytes}
 
 -- where the files are told, this text of them has that
-abbrev pub HasText : Option Files → (Files → List ℕ) → (List ℕ → Type 0) → Type 0
-HasText told text has = (files : Files) → told ≡ Some files → has (text files)
+abbrev pub HasText : Option NamedFiles → (NamedFiles → List ℕ) → (List ℕ → Type 0) → Type 0
+HasText told text has = (files : NamedFiles) → told ≡ Some files → has (text files)
 
 -- The read of this file failed, if it is one, and its name was added.
 abbrev pub Misses : Option (List ℕ) → List (List ℕ) → List (List ℕ) → Type 0
@@ -29,7 +29,8 @@ Misses file failed failed' =
     (name : List ℕ) × (file ≡ Some name) × (failed' ≡ names_with failed name)
 
 -- the script that the text spells, or its fault, or a read failed for this cause
-abbrev pub GivesTest : Option Files → (Files → List ℕ) → Type 0 → Result ReadyTest Refusal → Type 0
+abbrev pub GivesTest : Option NamedFiles → (NamedFiles → List ℕ) → Type 0 → Result ReadyTest Refusal
+    → Type 0
 GivesTest told source missed (Ok test) =
     HasText told source (λ bytes. Spells bytes (plain_script test.script))
 GivesTest told source missed (Err (Script line kind)) =
@@ -46,14 +47,14 @@ GivesText bytes (Err Memory) = Unit {0}
 GivesText bytes (Err refusal) = ⊥
 
 -- Some bytes are the trace: those of the file, where the files are told.
-abbrev pub HasTrace : Option Files → List ℕ → NameLists → TraceFile → Type 0
+abbrev pub HasTrace : Option NamedFiles → List ℕ → NameLists → TraceFile → Type 0
 HasTrace told file names trace =
     ((bytes : List ℕ) × IsTrace bytes names trace)
     × HasText told (λ files. take trace_bytes (files file)) (λ bytes. IsTrace bytes names trace)
 
 -- the trace of the file, or its fault, or the read failed
 abbrev pub GivesTrace :
-    Option Files → List ℕ → NameLists → Type 0 → Result TraceFile Refusal → Type 0
+    Option NamedFiles → List ℕ → NameLists → Type 0 → Result TraceFile Refusal → Type 0
 GivesTrace told file names missed (Ok trace) = HasTrace told file names trace
 GivesTrace told file names missed (Err (Trace line kind)) =
     HasText told (λ files. take trace_bytes (files file))
@@ -63,7 +64,7 @@ GivesTrace told file names missed (Err Memory) = Unit {0}
 GivesTrace told file names missed (Err refusal) = ⊥
 
 -- Some bytes are the directive: those of the file, where the files are told.
-abbrev pub HasDirective : Option Files → List ℕ → NameLists → Directive → Type 0
+abbrev pub HasDirective : Option NamedFiles → List ℕ → NameLists → Directive → Type 0
 HasDirective told file names directive =
     ((bytes : List ℕ) × IsDirective bytes names (plain directive))
     × HasText told (λ files. take directive_bytes (files file))
@@ -71,7 +72,7 @@ HasDirective told file names directive =
 
 -- the directive of the file, or its fault, or the read failed
 abbrev pub GivesDirective :
-    Option Files → List ℕ → NameLists → Type 0 → Result Directive Refusal → Type 0
+    Option NamedFiles → List ℕ → NameLists → Type 0 → Result Directive Refusal → Type 0
 GivesDirective told file names missed (Ok directive) = HasDirective told file names directive
 GivesDirective told file names missed (Err (BadDirective line kind)) =
     HasText told (λ files. take directive_bytes (files file))

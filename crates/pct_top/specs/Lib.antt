@@ -7,7 +7,6 @@ pub mod Refusing
 pub mod Ordered
 pub mod Outside
 pub mod Saying
-pub mod Ready
 pub mod Printed
 pub mod Runs
 pub mod commands

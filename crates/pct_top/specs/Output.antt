@@ -15,7 +15,7 @@ use Rattle.pct_top.specs.declared.settings.Settings.{Settings}
 use Rattle.pct_top.specs.declared.settings.Settings.TheVariants.{RunOrder, RunSeed, Campaign, Big}
 use Rattle.pct_top.specs.declared.settings.Settings.TheVariants.{Replay, Expose, Certify, Sweep}
 use Rattle.pct_top.specs.Settings.{SettingsOrWord, settings}
-use Rattle.pct_top.specs.Printed.{Files, Printed, printed_refusal, script_bytes, trace_bytes}
+use Rattle.pct_top.specs.Printed.{NamedFiles, Printed, printed_refusal, script_bytes, trace_bytes}
 use Rattle.pct_top.specs.Printed.{directive_bytes, OfScript}
 use Rattle.pct_top.specs.Reports.{OfOrdered, OfSeed}
 use Rattle.pct_top.specs.commands.Campaign.{OfCampaign}
@@ -39,7 +39,7 @@ script_file (Certify file directive steps limit serve) = Some file
 script_file (Sweep file depth steps limit json serve) = Some file
 
 -- the text of the command's script
-abbrev pub script_text : Settings → Files → List ℕ
+abbrev pub script_text : Settings → NamedFiles → List ℕ
 script_text (RunOrder file order word points limit report) files = take script_bytes (files file)
 script_text (RunSeed file seed depth steps limit report) files = take script_bytes (files file)
 script_text (Campaign file first count depth steps limit json serve) files =
@@ -74,13 +74,13 @@ second_file (Certify file directive steps limit serve) = Some directive
 second_file (Sweep file depth steps limit json serve) = None
 
 -- the file is a directive's under these names
-abbrev pub FitsDirective : Files → List ℕ → NameLists → Type 0
+abbrev pub FitsDirective : NamedFiles → List ℕ → NameLists → Type 0
 FitsDirective files file names =
     (directive : Directive)
     × IsDirective (take directive_bytes (files file)) names (plain directive)
 
 -- the second file is in its grammar
-abbrev pub SecondFits : Settings → Files → ScriptText → Type 0
+abbrev pub SecondFits : Settings → NamedFiles → ScriptText → Type 0
 SecondFits (RunOrder file order word points limit report) files script = Unit {0}
 SecondFits (RunSeed file seed depth steps limit report) files script = Unit {0}
 SecondFits (Campaign file first count depth steps limit json serve) files script = Unit {0}
@@ -94,7 +94,7 @@ SecondFits (Certify file directive steps limit serve) files script =
 SecondFits (Sweep file depth steps limit json serve) files script = Unit {0}
 
 -- what is printed of the script
-abbrev pub OfCommand : Settings → Files → ScriptText → Deal → Printed → Type 0
+abbrev pub OfCommand : Settings → NamedFiles → ScriptText → Deal → Printed → Type 0
 OfCommand (RunOrder file order word points limit report) files =
     OfOrdered order word points limit report
 OfCommand (RunSeed file seed depth steps limit report) files = OfSeed seed depth steps limit report
@@ -112,11 +112,11 @@ OfCommand (Sweep file depth steps limit json serve) files = OfSweep depth steps 
 
 -- what is printed for the settings, over the script of their command; where a word isn't taken, the
 -- refusal that tells its number
-abbrev pub OfTaken : SettingsOrWord → Files → Printed → Type 0
+abbrev pub OfTaken : SettingsOrWord → NamedFiles → Printed → Type 0
 OfTaken (Ok settings) files printed =
     OfScript (script_text settings files) (OfCommand settings files) printed
 OfTaken (Err number) files printed = printed ≡ printed_refusal (Usage number)
 
 -- What the program prints for its words, where these are the bytes of the files by their names.
-abbrev pub Output : List (List ℕ) → Files → Printed → Type 0
+abbrev pub Output : List (List ℕ) → NamedFiles → Printed → Type 0
 Output words files printed = OfTaken (settings words) files printed

@@ -27,8 +27,8 @@ use Rattle.pct_top.specs.Refusing.{status_of_refusal, refusal_line}
 use Rattle.pct_top.specs.Ordered.{NamesAll}
 
 -- the bytes of each file by its name
-abbrev pub Files : Type 0
-Files = List ℕ → List ℕ
+abbrev pub NamedFiles : Type 0
+NamedFiles = List ℕ → List ℕ
 
 -- the bytes on the output, the status, and the line on the error stream
 pub record Printed : Type 0 where

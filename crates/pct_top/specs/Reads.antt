@@ -33,10 +33,10 @@ abbrev pub is_read : Refusal → Bool
 is_read Read = true
 is_read refusal = false
 
--- the same of an answer
-abbrev pub is_unread : {T : Type 0} → Result T Refusal → Bool
-is_unread (Ok given) = false
-is_unread (Err refusal) = is_read refusal
+-- whether an answer is that a file can't be read
+abbrev pub is_missed : {T : Type 0} → Result T Refusal → Bool
+is_missed (Ok given) = false
+is_missed (Err refusal) = is_read refusal
 
 -- A file was read, if there is one, and this says whether that failed.
 abbrev pub KeepsFile : Option (List ℕ) → Bool → List (List ℕ) → List (List ℕ) → Type 0

@@ -172,12 +172,13 @@ ReadsWordsAs (Err NoMemory) taken = Unit {0}
 -- ---- the ranges that the words keep to
 
 -- at most seven change points, each in 1..100000
-abbrev pub ArePoints : List ℕ → Type 0
-ArePoints points = (length points ≤ MAX_POINTS) × All IsStepCount points
+abbrev pub AreChangePoints : List ℕ → Type 0
+AreChangePoints points = (length points ≤ MAX_POINTS) × All IsStepCount points
 
 -- the points, the depth, the numbers of steps, of seeds and of pieces are in their ranges
 abbrev pub AreLawful : Settings → Type 0
-AreLawful (RunOrder file order word points limit report) = ArePoints points × IsStepCount limit
+AreLawful (RunOrder file order word points limit report) =
+    AreChangePoints points × IsStepCount limit
 AreLawful (RunSeed file seed depth steps limit report) =
     IsDepth depth × IfSome steps IsStepCount × IsStepCount limit
 AreLawful (Campaign file first count depth steps limit json serve) =

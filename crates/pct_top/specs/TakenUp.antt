@@ -18,7 +18,7 @@ use Rattle.pct_top.specs.declared.status.Status.TheVariants.{Done, Found}
 use Rattle.pct_top.specs.Settings.{SettingsOrWord, settings}
 use Rattle.pct_top.specs.Ordered.{NamesAll}
 use Rattle.pct_top.specs.Runs.{DrawsFrom}
-use Rattle.pct_top.specs.Printed.{Files, Printed, script_bytes}
+use Rattle.pct_top.specs.Printed.{NamedFiles, Printed, script_bytes}
 use Rattle.pct_top.specs.Output.{Output}
 
 -- the words ask for the directive of a run of the script in this file, under this limit
@@ -48,7 +48,8 @@ ExposesIn taken name other items k most = ⊥
 -- The text is a directive of the script, which leads to its verdict under the run's order. Wherever
 -- the script's name has the same bytes and another name the text, exposing it under this order and
 -- limit is done, for every k from the number of the directed run's steps on.
-pub record IsTakenUp (taken : SettingsOrWord) (files : Files) (file text : List ℕ) (limit : ℕ) :
+pub record IsTakenUp (taken : SettingsOrWord) (files : NamedFiles) (file text : List ℕ)
+    (limit : ℕ) :
     Type 0 where
   pub script : ScriptText
   pub deal : Deal
@@ -62,7 +63,7 @@ pub record IsTakenUp (taken : SettingsOrWord) (files : Files) (file text : List 
   pub leads :
       directed_run deal (bodies_of script) order plan.events limit ≡ Some (made, plan.verdict)
   pub takes :
-      (words : List (List ℕ)) (later : Files) (other : List ℕ) (k : ℕ)
+      (words : List (List ℕ)) (later : NamedFiles) (other : List ℕ) (k : ℕ)
       → ExposesIn (settings words) file other (map (thread_name script.names) order) k limit
       → later file ≡ files file → later other ≡ text → length made ≤ k
       → (printed : Printed) → Output words later printed → printed.status ≡ Done
@@ -70,6 +71,6 @@ pub record IsTakenUp (taken : SettingsOrWord) (files : Files) (file text : List 
 -- For all words and files: what `find` may find is taken up by `expose`.
 abbrev pub FoundAreTakenUp : Type 0
 FoundAreTakenUp =
-    (words : List (List ℕ)) (files : Files) (printed : Printed) (file : List ℕ) (limit : ℕ)
+    (words : List (List ℕ)) (files : NamedFiles) (printed : Printed) (file : List ℕ) (limit : ℕ)
     → FindsIn (settings words) file limit → Output words files printed
     → printed.status ≡ Found → IsTakenUp (settings words) files file printed.out limit

@@ -3,10 +3,10 @@
 ghost use Rattle.std.specs.Prelude.{◌≡◌, Ok, None};
 ghost use Rattle.pct_top.specs.Settings.{AreLawful};
 ghost use Rattle.pct_top.specs.Plan.{asked};
-ghost use Rattle.pct_top.specs.Printed.{Files};
+ghost use Rattle.pct_top.specs.Printed.{NamedFiles};
 ghost use Rattle.pct_top.specs.Output.{script_file, OfTaken};
 ghost use Rattle.pct_top.specs.CommandOutput.{GivesPrinted, Comes};
-ghost use Rattle.pct_top.specs.Reads.{is_unread};
+ghost use Rattle.pct_top.specs.Reads.{is_missed};
 ghost use Rattle.pct_top.specs.Call.{ReadFailed, LeavesShelf};
 
 use crate::command_output::CommandOutput;
@@ -34,7 +34,7 @@ fn over_file<R: Threads + Wait + Sync, H: Shelf, G: Gate>(
         (ReadFailed (Ok (asked file.now job.now))
         (record { files = H.files shelf.old; failed = H.failed shelf.old })
         (record { files = H.files shelf.new; failed = H.failed shelf.new })) result }
-    ensures shelf { LeavesShelf (Ok (asked file.now job.now)) (is_unread result)
+    ensures shelf { LeavesShelf (Ok (asked file.now job.now)) (is_missed result)
         (record { files = H.files shelf.old; failed = H.failed shelf.old })
         (record { files = H.files shelf.new; failed = H.failed shelf.new }) }
 {
@@ -57,9 +57,9 @@ pub fn output_of<R: Threads + Wait + Sync, H: Shelf, G: Gate>(
         (ReadFailed (Ok settings)
         (record { files = H.files shelf.old; failed = H.failed shelf.old })
         (record { files = H.files shelf.new; failed = H.failed shelf.new })) result }
-    ensures unread { script_file settings ≡ None → (files : Files)
+    ensures unread { script_file settings ≡ None → (files : NamedFiles)
         → GivesPrinted (OfTaken (Ok settings) files) result }
-    ensures shelf { LeavesShelf (Ok settings) (is_unread result)
+    ensures shelf { LeavesShelf (Ok settings) (is_missed result)
         (record { files = H.files shelf.old; failed = H.failed shelf.old })
         (record { files = H.files shelf.new; failed = H.failed shelf.new }) }
 {

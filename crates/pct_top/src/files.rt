@@ -1,12 +1,11 @@
 //! The files of a call.
 
-ghost use Rattle.std.specs.Prelude.{◌≡◌, ◌≤◌, Some, IfOk, take};
+ghost use Rattle.std.specs.Prelude.{◌≡◌, ◌≤◌, Some, take};
 ghost use Rattle.script_tree.specs.Layout.{layout};
 ghost use Rattle.large_script.specs.Large.{large_script};
-ghost use Rattle.pct_top.specs.Ready.{IsReadyTest};
 ghost use Rattle.pct_top.specs.Printed.{script_bytes};
 ghost use Rattle.pct_top.specs.Files.{GivesTest, GivesText, GivesTrace, GivesDirective, Misses};
-ghost use Rattle.pct_top.specs.Reads.{KeepsFile, is_unread};
+ghost use Rattle.pct_top.specs.Reads.{KeepsFile, is_missed};
 
 use crate::refusal::Refusal;
 use crate::test::ReadyTest;
@@ -29,10 +28,9 @@ const DIRECTIVE_BYTES: u64 = 65_537;
 
 /// The script of a file, ready to be run.
 pub fn read_test<H: Shelf>(alloc: Global, file: &str, shelf: &mut H) -> Result<ReadyTest, Refusal>
-    ensures ready { IfOk result IsReadyTest }
     ensures test { GivesTest (H.files shelf.old) (λ files. take script_bytes (files file.now))
         (Misses (Some file.now) (H.failed shelf.old) (H.failed shelf.new)) result }
-    ensures keeps { KeepsFile (Some file.now) (is_unread result) (H.failed shelf.old)
+    ensures keeps { KeepsFile (Some file.now) (is_missed result) (H.failed shelf.old)
         (H.failed shelf.new) }
     ensures files { H.files shelf.new ≡ H.files shelf.old }
 {
@@ -44,8 +42,7 @@ pub fn read_test<H: Shelf>(alloc: Global, file: &str, shelf: &mut H) -> Result<R
 /// The large script, printed and parsed, ready to be run.
 pub fn large_test(alloc: Global, pieces: u32) -> Result<ReadyTest, Refusal>
     requires { pieces ≤ 100 }
-    ensures ready { IfOk result IsReadyTest }
-    ensures test { GivesText (layout (large_script pieces)) result }
+    ensures { GivesText (layout (large_script pieces)) result }
 {
     let bytes = print_large(alloc, pieces)?;
     let script = parse(alloc, &bytes)?;
@@ -61,7 +58,7 @@ pub fn read_told<H: Shelf>(
 ) -> Result<TraceFile, Refusal>
     ensures told { GivesTrace (H.files shelf.old) file.now names.now
         (Misses (Some file.now) (H.failed shelf.old) (H.failed shelf.new)) result }
-    ensures keeps { KeepsFile (Some file.now) (is_unread result) (H.failed shelf.old)
+    ensures keeps { KeepsFile (Some file.now) (is_missed result) (H.failed shelf.old)
         (H.failed shelf.new) }
     ensures files { H.files shelf.new ≡ H.files shelf.old }
 {
@@ -78,7 +75,7 @@ pub fn read_directed<H: Shelf>(
 ) -> Result<Directive, Refusal>
     ensures told { GivesDirective (H.files shelf.old) file.now names.now
         (Misses (Some file.now) (H.failed shelf.old) (H.failed shelf.new)) result }
-    ensures keeps { KeepsFile (Some file.now) (is_unread result) (H.failed shelf.old)
+    ensures keeps { KeepsFile (Some file.now) (is_missed result) (H.failed shelf.old)
         (H.failed shelf.new) }
     ensures files { H.files shelf.new ≡ H.files shelf.old }
 {

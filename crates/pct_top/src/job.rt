@@ -3,11 +3,10 @@
 ghost use Rattle.std.specs.Prelude.{◌≡◌, ℕ, List};
 ghost use Rattle.script_tree.specs.ScriptSeen.{plain_script};
 ghost use Rattle.pct_top.specs.Plan.{asked};
-ghost use Rattle.pct_top.specs.Ready.{IsReadyTest};
 ghost use Rattle.pct_top.specs.Ordered.{OrderFits};
 ghost use Rattle.pct_top.specs.Output.{order_given, second_file, OfCommand};
 ghost use Rattle.pct_top.specs.CommandOutput.{Comes};
-ghost use Rattle.pct_top.specs.Reads.{KeepsSecond, is_unread};
+ghost use Rattle.pct_top.specs.Reads.{KeepsSecond, is_missed};
 ghost use Rattle.pct_top.specs.Call.{MissesSecond};
 
 use crate::command_output::CommandOutput;
@@ -46,7 +45,6 @@ impl Job {
         shelf: &mut H,
         gate: &G,
     ) -> Result<CommandOutput, Refusal>
-        requires ready { IsReadyTest test.now }
         ensures comes { (file : List ℕ) → Comes
             (λ files. OfCommand (asked file self.now) files (plain_script test.now.script)
             test.now.deal)
@@ -56,7 +54,7 @@ impl Job {
             result }
         ensures keeps { (file : List ℕ) → KeepsSecond (second_file (asked file self.now))
             (OrderFits (plain_script test.now.script).names (order_given (asked file self.now)))
-            (is_unread result) (H.failed shelf.old) (H.failed shelf.new) }
+            (is_missed result) (H.failed shelf.old) (H.failed shelf.new) }
         ensures files { H.files shelf.new ≡ H.files shelf.old }
     {
         match self {

@@ -4,7 +4,6 @@ ghost use Rattle.std.specs.Prelude.{◌≡◌, ◌≤◌, Some, IfOk, length};
 ghost use Rattle.script_tree.specs.ScriptSeen.{plain_script};
 ghost use Rattle.trace_text.specs.Lawful.{IsKnownRun};
 ghost use Rattle.pct_top.specs.Runs.{run_of, trace_version};
-ghost use Rattle.pct_top.specs.Ready.{IsReadyTest};
 ghost use Rattle.pct_ask.specs.declared.limits.TheConstants.{MAX_STEPS};
 
 use crate::run_plan::RunPlan;
@@ -26,8 +25,7 @@ pub fn play<R: Threads + Wait + Sync, G: Gate>(
     serve: Serve,
     gate: &G,
 ) -> Result<WholeRun, NoMemory>
-    requires ready { IsReadyTest test.now }
-    requires whole { length plan.now.order ≡ test.now.deal.threads }
+    requires { length plan.now.order ≡ test.now.deal.threads }
     ensures run { IfOk result (λ run.
         run_of (plain_script test.now.script) test.now.deal plan.now.order plan.now.points
         plan.now.limit ≡ Some (run.events, run.verdict)) }

@@ -2,8 +2,7 @@
 
 ghost use Rattle.std.specs.Prelude.{◌≡◌, IfOk, length};
 ghost use Rattle.script_tree.specs.ScriptSeen.{plain_script};
-ghost use Rattle.pct_top.specs.Ready.{IsReadyTest};
-ghost use Rattle.pct_top.specs.Settings.{ArePoints};
+ghost use Rattle.pct_top.specs.Settings.{AreChangePoints};
 ghost use Rattle.pct_top.specs.CommandOutput.{printed_of, GivesPrinted};
 ghost use Rattle.pct_top.specs.Reports.{OfReport, OfOrdered, OfSeed};
 
@@ -31,8 +30,7 @@ fn report_of<R: Threads + Wait + Sync, G: Gate>(
     plan: RunPlan,
     gate: &G,
 ) -> Result<CommandOutput, NoMemory>
-    requires ready { IsReadyTest test.now }
-    requires whole { length plan.order ≡ test.now.deal.threads }
+    requires { length plan.order ≡ test.now.deal.threads }
     ensures { IfOk result (λ output. OfReport report (plain_script test.now.script) test.now.deal
         plan.order plan.points plan.limit (printed_of output)) }
 {
@@ -53,7 +51,7 @@ pub struct OrderedRun {
     pub points: PointList,
     pub limit: Limit,
     pub report: Report,
-    ghost points_fit: { ArePoints points },
+    ghost points_fit: { AreChangePoints points },
 }
 
 impl OrderedRun {
@@ -64,7 +62,6 @@ impl OrderedRun {
         test: &ReadyTest,
         gate: &G,
     ) -> Result<CommandOutput, Refusal>
-        requires ready { IsReadyTest test.now }
         ensures { GivesPrinted (OfOrdered self.now.order self.now.word self.now.points
             self.now.limit self.now.report (plain_script test.now.script) test.now.deal) result }
     {
@@ -103,7 +100,6 @@ impl SeededRun {
         test: &ReadyTest,
         gate: &G,
     ) -> Result<CommandOutput, NoMemory>
-        requires ready { IsReadyTest test.now }
         ensures { IfOk result (λ output. OfSeed self.now.seed self.now.depth self.now.steps
             self.now.limit self.now.report (plain_script test.now.script) test.now.deal
             (printed_of output)) }

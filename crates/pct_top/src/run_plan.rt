@@ -4,8 +4,7 @@ ghost use Rattle.std.specs.Prelude.{◌≡◌, ◌≤◌, None, IfOk, length};
 ghost use Rattle.script_tree.specs.ScriptSeen.{plain_script};
 ghost use Rattle.priority_draw.specs.Drawing.{draw_of_seed};
 ghost use Rattle.rank_now.specs.Order.{IsOrder};
-ghost use Rattle.pct_top.specs.Ready.{IsReadyTest};
-ghost use Rattle.pct_top.specs.Settings.{ArePoints};
+ghost use Rattle.pct_top.specs.Settings.{AreChangePoints};
 ghost use Rattle.pct_top.specs.Runs.{DrawsFrom};
 ghost use Rattle.pct_ask.specs.declared.limits.TheConstants.{MAX_THREADS};
 
@@ -27,7 +26,7 @@ pub struct RunPlan {
     pub points: PointList,
     pub limit: Limit,
     ghost is_order: { ∥ IsOrder order ∥₁ },
-    ghost points_fit: { ArePoints points },
+    ghost points_fit: { AreChangePoints points },
 }
 
 /// How many steps the run in declared order has, without points, and at least one.
@@ -39,7 +38,6 @@ fn declared_length<R: Threads + Wait + Sync, G: Gate>(
     serve: Serve,
     gate: &G,
 ) -> Result<Limit, NoMemory>
-    requires ready { IsReadyTest test.now }
     ensures { IfOk result
         (DrawsFrom (plain_script test.now.script) test.now.deal limit None) }
 {
@@ -64,7 +62,6 @@ pub fn steps_of<R: Threads + Wait + Sync, G: Gate>(
     serve: Serve,
     gate: &G,
 ) -> Result<Limit, NoMemory>
-    requires ready { IsReadyTest test.now }
     ensures { IfOk result
         (DrawsFrom (plain_script test.now.script) test.now.deal limit steps) }
 {

@@ -4,7 +4,7 @@ ghost use Rattle.std.specs.Prelude.{◌≡◌, IfOk};
 ghost use Rattle.script_tree.specs.ScriptSeen.{plain_script};
 ghost use Rattle.script_code.specs.Listing.{listing};
 ghost use Rattle.script_body.specs.Bodies.{AreOf};
-ghost use Rattle.pct_top.specs.Ready.{IsReadyTest};
+ghost use Rattle.script_body.proofs.laws.OneWay.{are_of-prop};
 
 use pct_ask::Deal;
 use script_code::{Code, compile};
@@ -17,6 +17,7 @@ pub struct ReadyTest {
     pub script: Script,
     pub code: Code,
     pub deal: Deal,
+    ghost is_ready: { AreOf (plain_script script) (listing code) deal } by { are_of-prop },
 }
 
 /// A script's code, and what its threads share.
@@ -31,8 +32,7 @@ fn parts_of(alloc: Global, script: &Script) -> Result<(Code, Deal), NoMemory>
 
 impl ReadyTest {
     pub fn of_script(alloc: Global, script: Script) -> Result<Self, NoMemory>
-        ensures script { IfOk result (λ test. plain_script test.script ≡ plain_script script) }
-        ensures ready { IfOk result IsReadyTest }
+        ensures { IfOk result (λ test. plain_script test.script ≡ plain_script script) }
     {
         match parts_of(alloc, &script) {
             Ok((code, deal)) => Ok(ReadyTest { script, code, deal }),

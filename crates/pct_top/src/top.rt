@@ -4,9 +4,9 @@ ghost use Rattle.std.specs.Prelude.{Ok, Some};
 ghost use Rattle.pct_outside.specs.Reading.{texts_of};
 ghost use Rattle.pct_top.specs.Settings.{settings, AreLawful};
 ghost use Rattle.pct_top.specs.CommandOutput.{printed_of};
-ghost use Rattle.pct_top.specs.Printed.{Files};
-ghost use Rattle.pct_top.specs.Reads.{is_unread};
-ghost use Rattle.pct_top.specs.Call.{PutsOutput, RefusedFirst, Answers, LeavesShelf, ReadsNone};
+ghost use Rattle.pct_top.specs.Printed.{NamedFiles};
+ghost use Rattle.pct_top.specs.Reads.{is_missed};
+ghost use Rattle.pct_top.specs.Call.{PutsOutput, RefusedFirst, AnswersCall, LeavesShelf, ReadsNone};
 ghost use Rattle.pct_top.specs.Call.{IsCall};
 
 use crate::command_output::CommandOutput;
@@ -49,7 +49,7 @@ fn print_settings<R: Threads + Wait + Sync, H: Shelf, O: Sink, G: Gate>(
     gate: &G,
 ) -> Result<Status, Refusal>
     requires { AreLawful settings }
-    ensures answers { Answers (Ok settings)
+    ensures answers { AnswersCall (Ok settings)
         (record { files = H.files shelf.old; failed = H.failed shelf.old })
         (record { files = H.files shelf.new; failed = H.failed shelf.new })
         (record {
@@ -63,8 +63,8 @@ fn print_settings<R: Threads + Wait + Sync, H: Shelf, O: Sink, G: Gate>(
           shorts = O.shorts out.new;
         })
         result }
-    ensures unread { ReadsNone (Ok settings) → (files : Files)
-        → Answers (Ok settings)
+    ensures unread { ReadsNone (Ok settings) → (files : NamedFiles)
+        → AnswersCall (Ok settings)
         (record { files = Some files; failed = H.failed shelf.old })
         (record { files = H.files shelf.new; failed = H.failed shelf.new })
         (record {
@@ -78,7 +78,7 @@ fn print_settings<R: Threads + Wait + Sync, H: Shelf, O: Sink, G: Gate>(
           shorts = O.shorts out.new;
         })
         result }
-    ensures shelf { LeavesShelf (Ok settings) (is_unread result)
+    ensures shelf { LeavesShelf (Ok settings) (is_missed result)
         (record { files = H.files shelf.old; failed = H.failed shelf.old })
         (record { files = H.files shelf.new; failed = H.failed shelf.new }) }
 {
@@ -97,7 +97,7 @@ fn answer<R: Threads + Wait + Sync, H: Shelf, O: Sink, G: Gate>(
     out: &mut O,
     gate: &G,
 ) -> Result<Status, Refusal>
-    ensures answers { Answers (settings (texts_of words.now))
+    ensures answers { AnswersCall (settings (texts_of words.now))
         (record { files = H.files shelf.old; failed = H.failed shelf.old })
         (record { files = H.files shelf.new; failed = H.failed shelf.new })
         (record {
@@ -111,8 +111,8 @@ fn answer<R: Threads + Wait + Sync, H: Shelf, O: Sink, G: Gate>(
           shorts = O.shorts out.new;
         })
         result }
-    ensures unread { ReadsNone (settings (texts_of words.now)) → (files : Files)
-        → Answers (settings (texts_of words.now))
+    ensures unread { ReadsNone (settings (texts_of words.now)) → (files : NamedFiles)
+        → AnswersCall (settings (texts_of words.now))
         (record { files = Some files; failed = H.failed shelf.old })
         (record { files = H.files shelf.new; failed = H.failed shelf.new })
         (record {
@@ -126,7 +126,7 @@ fn answer<R: Threads + Wait + Sync, H: Shelf, O: Sink, G: Gate>(
           shorts = O.shorts out.new;
         })
         result }
-    ensures shelf { LeavesShelf (settings (texts_of words.now)) (is_unread result)
+    ensures shelf { LeavesShelf (settings (texts_of words.now)) (is_missed result)
         (record { files = H.files shelf.old; failed = H.failed shelf.old })
         (record { files = H.files shelf.new; failed = H.failed shelf.new }) }
     ensures refused { RefusedFirst (settings (texts_of words.now)) result }

@@ -5,7 +5,7 @@ use Rattle.pct_ask.specs.declared.Deal.{Deal}
 use Rattle.pct_ask.specs.declared.event.Row.{Row}
 use Rattle.script_tree.specs.ScriptText.{ScriptText}
 use Rattle.script_body.specs.Bodies.{bodies_of}
-use Rattle.campaign.specs.Rows.{Setup, rows_of}
+use Rattle.campaign.specs.Rows.{CampaignSetup, rows_of}
 use Rattle.failure_rank.specs.declared.group.Group.{Group}
 use Rattle.failure_rank.specs.Groups.{IsRanking}
 use Rattle.report_text.specs.declared.frame.Frame.{Frame}
@@ -15,7 +15,7 @@ use Rattle.pct_top.specs.Printed.{Printed, printed_text}
 use Rattle.pct_top.specs.Runs.{DrawsFrom, is_passed}
 
 -- what the runs of a campaign of a script have in common
-abbrev pub setup_of : ScriptText → Deal → ℕ → ℕ → ℕ → Setup
+abbrev pub setup_of : ScriptText → Deal → ℕ → ℕ → ℕ → CampaignSetup
 setup_of script deal depth steps limit = record {
   deal = deal;
   bodies = bodies_of script;
@@ -44,7 +44,8 @@ printed_campaign json script frame rows groups =
     printed_text (campaign_text json script frame rows groups) (all_pass rows)
 
 -- the rows of so many seeds from the first one on, with their groups
-pub record AreOfSeeds (setup : Setup) (first count : ℕ) (rows : List Row) (groups : List Group) :
+pub record AreOfSeeds (setup : CampaignSetup) (first count : ℕ) (rows : List Row)
+    (groups : List Group) :
     Type 0 where
   pub are : map Some rows ≡ rows_of setup first count
   pub ranked : IsRanking rows groups

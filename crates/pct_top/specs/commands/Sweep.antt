@@ -12,7 +12,7 @@ use Rattle.report_text.specs.declared.swept.SweptGroup.{SweptGroup}
 use Rattle.report_text.specs.SweepText.{sweep_text_of}
 use Rattle.report_text.specs.SweepJson.{sweep_json_of}
 use Rattle.sweep.specs.Choices.{choices}
-use Rattle.sweep.specs.Rows.{Setup}
+use Rattle.sweep.specs.Rows.{SweepSetup}
 use Rattle.sweep.specs.Swept.{Sweeps}
 use Rattle.sweep.specs.declared.choice.Choice.{Choice}
 use Rattle.sweep.specs.declared.sweeping.Swept.{Swept}
@@ -23,7 +23,7 @@ use Rattle.pct_top.specs.Runs.{DrawsFrom}
 use Rattle.pct_top.specs.commands.Campaign.{frame_of}
 
 -- what the runs of a sweep of a script have in common
-abbrev pub swept_setup : ScriptText → Deal → ℕ → ℕ → ℕ → Setup
+abbrev pub swept_setup : ScriptText → Deal → ℕ → ℕ → ℕ → SweepSetup
 swept_setup script deal depth steps limit = record {
   deal = deal;
   bodies = bodies_of script;
@@ -51,8 +51,8 @@ abbrev pub told_group : Frame → Group → Option SweptGroup
 told_group frame group = option_map (told_as group) (slice_get (choices_in frame) group.first)
 
 -- the groups as they are told
-abbrev pub AreTold : Frame → List Group → List SweptGroup → Type 0
-AreTold frame groups told = map Some told ≡ map (told_group frame) groups
+abbrev pub AreGroupsTold : Frame → List Group → List SweptGroup → Type 0
+AreGroupsTold frame groups told = map Some told ≡ map (told_group frame) groups
 
 -- the report as JSON or as a text
 abbrev pub sweep_report : Bool → ScriptText → Frame → Swept → List SweptGroup → List ℕ
@@ -69,7 +69,7 @@ too_many_text threads = line_text (codes "toomany" ∷ decimal threads ∷ [])
 -- many, a line says so.
 abbrev pub PrintsAnswer : Bool → ScriptText → Frame → Answer → Printed → Type 0
 PrintsAnswer json script frame (Whole swept) printed =
-    (told : List SweptGroup) × AreTold frame swept.groups told
+    (told : List SweptGroup) × AreGroupsTold frame swept.groups told
     × (printed
     ≡ printed_text (sweep_report json script frame swept told) (length swept.groups == 0))
 PrintsAnswer json script frame TooMany printed =

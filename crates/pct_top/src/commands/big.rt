@@ -6,7 +6,6 @@ ghost use Rattle.pct_ask.specs.TraceText.{line_text};
 ghost use Rattle.script_tree.specs.Layout.{layout};
 ghost use Rattle.script_tree.specs.ScriptSeen.{plain_script};
 ghost use Rattle.large_script.specs.Large.{large_script};
-ghost use Rattle.pct_top.specs.Ready.{IsReadyTest};
 ghost use Rattle.pct_top.specs.Printed.{OfScript};
 ghost use Rattle.pct_top.specs.CommandOutput.{printed_of, GivesPrinted};
 ghost use Rattle.pct_top.specs.commands.Big.{failures as failures_by, big_lines, OfBig};
@@ -78,8 +77,7 @@ fn big_of<R: Threads + Wait + Sync, G: Gate>(
     serve: Serve,
     gate: &G,
 ) -> Result<CommandOutput, NoMemory>
-    requires ready { IsReadyTest test.now }
-    requires pieces { pieces ≤ 100 }
+    requires { pieces ≤ 100 }
     ensures { IfOk result (λ output.
         OfBig pieces (plain_script test.now.script) test.now.deal (printed_of output)) }
 {

@@ -4,7 +4,6 @@ ghost use Rattle.std.specs.Prelude.{◌≡◌, All, IfOk};
 ghost use Rattle.script_tree.specs.ScriptSeen.{plain_script};
 ghost use Rattle.pct_ask.specs.Limits.{IsDepth, IsStepCount};
 ghost use Rattle.report_text.specs.Report.{IsWritable};
-ghost use Rattle.pct_top.specs.Ready.{IsReadyTest};
 ghost use Rattle.pct_top.specs.CommandOutput.{printed_of};
 ghost use Rattle.pct_top.specs.commands.Campaign.{all_pass as all_pass_by, campaign_text};
 ghost use Rattle.pct_top.specs.commands.Campaign.{frame_of as frame_by};
@@ -94,7 +93,6 @@ impl CampaignJob {
         test: &ReadyTest,
         gate: &G,
     ) -> Result<CommandOutput, NoMemory>
-        requires ready { IsReadyTest test.now }
         ensures { IfOk result (λ output. OfCampaign self.now.first self.now.count self.now.depth
             self.now.steps self.now.limit self.now.json (plain_script test.now.script)
             test.now.deal (printed_of output)) }

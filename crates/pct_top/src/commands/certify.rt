@@ -9,10 +9,9 @@ ghost use Rattle.pct_ask.specs.VerdictText.{thread_name, named_verdict, verdict_
 ghost use Rattle.pct_ask.specs.VerdictText.{IsWholeVerdict};
 ghost use Rattle.script_tree.specs.ScriptSeen.{plain_script};
 ghost use Rattle.trace_text.specs.Spaced.{behind_spaces};
-ghost use Rattle.pct_top.specs.Ready.{IsReadyTest};
 ghost use Rattle.pct_top.specs.Printed.{directive_bytes};
 ghost use Rattle.pct_top.specs.Files.{Misses};
-ghost use Rattle.pct_top.specs.Reads.{KeepsFile, is_unread};
+ghost use Rattle.pct_top.specs.Reads.{KeepsFile, is_missed};
 ghost use Rattle.pct_top.specs.CommandOutput.{printed_of, Comes};
 ghost use Rattle.pct_top.specs.commands.Certify.{order_words, certificate_row_words, bound_words};
 ghost use Rattle.pct_top.specs.commands.Certify.{certificate_text, is_certified as is_certified_by};
@@ -164,8 +163,7 @@ impl CertifyJob {
         directive: &Directive,
         gate: &G,
     ) -> Result<CommandOutput, NoMemory>
-        requires ready { IsReadyTest test.now }
-        requires directive { (bytes : List ℕ)
+        requires { (bytes : List ℕ)
             × IsDirective bytes (plain_script test.now.script).names (plain directive.now) }
         ensures { IfOk result (λ output. PrintsCertificate (plain_script test.now.script)
             test.now.deal self.now.steps self.now.limit directive.now (printed_of output)) }
@@ -187,13 +185,12 @@ impl CertifyJob {
         shelf: &mut H,
         gate: &G,
     ) -> Result<CommandOutput, Refusal>
-        requires ready { IsReadyTest test.now }
         ensures comes { Comes
             (λ files. OfCertify (take directive_bytes (files directive.now)) self.now.steps
             self.now.limit (plain_script test.now.script) test.now.deal)
             (H.files shelf.old)
             (Misses (Some directive.now) (H.failed shelf.old) (H.failed shelf.new)) result }
-        ensures keeps { KeepsFile (Some directive.now) (is_unread result) (H.failed shelf.old)
+        ensures keeps { KeepsFile (Some directive.now) (is_missed result) (H.failed shelf.old)
             (H.failed shelf.new) }
         ensures files { H.files shelf.new ≡ H.files shelf.old }
     {

@@ -5,11 +5,10 @@ ghost use Rattle.directive_run.specs.Exposing.{Exposes};
 ghost use Rattle.script_body.specs.Bodies.{bodies_of};
 ghost use Rattle.script_tree.specs.ScriptSeen.{plain_script};
 ghost use Rattle.pct_ask.specs.Limits.{IsStepCount};
-ghost use Rattle.pct_top.specs.Ready.{IsReadyTest};
 ghost use Rattle.pct_top.specs.Ordered.{OrderFits};
 ghost use Rattle.pct_top.specs.Printed.{directive_bytes};
 ghost use Rattle.pct_top.specs.Files.{Misses};
-ghost use Rattle.pct_top.specs.Reads.{KeepsSecond, is_unread};
+ghost use Rattle.pct_top.specs.Reads.{KeepsSecond, is_missed};
 ghost use Rattle.pct_top.specs.CommandOutput.{printed_of, Comes};
 ghost use Rattle.pct_top.specs.commands.Expose.{long_text, TellsExposed, PrintsExposed, OfExpose};
 
@@ -62,7 +61,6 @@ impl ExposeJob {
         directive: &Directive,
         exposed: Exposed,
     ) -> Result<CommandOutput, NoMemory>
-        requires ready { IsReadyTest test.now }
         requires whole { length plan.order ≡ test.now.deal.threads }
         requires exposed { Exposes test.now.deal (bodies_of (plain_script test.now.script))
             plan.order directive.now.events self.now.steps plan.limit exposed }
@@ -103,8 +101,7 @@ impl ExposeJob {
         directive: &Directive,
         gate: &G,
     ) -> Result<CommandOutput, NoMemory>
-        requires ready { IsReadyTest test.now }
-        requires whole { length plan.order ≡ test.now.deal.threads }
+        requires { length plan.order ≡ test.now.deal.threads }
         ensures { IfOk result
             (λ output. PrintsExposed (plain_script test.now.script) test.now.deal plan.order
             self.now.steps plan.limit directive.now (printed_of output)) }
@@ -132,7 +129,6 @@ impl ExposeJob {
         shelf: &mut H,
         gate: &G,
     ) -> Result<CommandOutput, Refusal>
-        requires ready { IsReadyTest test.now }
         ensures comes { Comes
             (λ files. OfExpose (take directive_bytes (files directive.now)) self.now.order
             self.now.word self.now.steps self.now.limit (plain_script test.now.script)
@@ -142,7 +138,7 @@ impl ExposeJob {
             × OrderFits (plain_script test.now.script).names (Some self.now.order)) result }
         ensures keeps { KeepsSecond (Some directive.now)
             (OrderFits (plain_script test.now.script).names (Some self.now.order))
-            (is_unread result) (H.failed shelf.old) (H.failed shelf.new) }
+            (is_missed result) (H.failed shelf.old) (H.failed shelf.new) }
         ensures files { H.files shelf.new ≡ H.files shelf.old }
     {
         let names = test.script.names();

@@ -2,7 +2,6 @@
 
 ghost use Rattle.std.specs.Prelude.{◌≡◌, ◌≤◌, ◌<◌, length, IfOk};
 ghost use Rattle.script_tree.specs.ScriptSeen.{plain_script};
-ghost use Rattle.pct_top.specs.Ready.{IsReadyTest};
 ghost use Rattle.pct_top.specs.CommandOutput.{printed_of};
 ghost use Rattle.pct_top.specs.commands.Find.{last_of, found_text, IsWellFormed};
 ghost use Rattle.pct_top.specs.commands.Find.{is_pass as passes_by, PrintsFound};
@@ -70,8 +69,7 @@ pub fn directive_of<R: Threads + Wait + Sync, G: Gate>(
     plan: RunPlan,
     gate: &G,
 ) -> Result<CommandOutput, NoMemory>
-    requires ready { IsReadyTest test.now }
-    requires whole { length plan.order ≡ test.now.deal.threads }
+    requires { length plan.order ≡ test.now.deal.threads }
     ensures { IfOk result (λ output. PrintsFound (plain_script test.now.script) test.now.deal
         plan.order plan.points plan.limit (printed_of output)) }
 {

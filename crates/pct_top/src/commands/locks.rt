@@ -3,7 +3,6 @@
 ghost use Rattle.std.specs.Prelude.{◌≡◌, ◌++◌, ◌∷◌, map, OnOk, IfOk, codes, length};
 ghost use Rattle.pct_ask.specs.TraceText.{name_at, line_text};
 ghost use Rattle.script_tree.specs.ScriptSeen.{plain_script};
-ghost use Rattle.pct_top.specs.Ready.{IsReadyTest};
 ghost use Rattle.pct_top.specs.CommandOutput.{printed_of};
 ghost use Rattle.pct_top.specs.commands.Locks.{nesting_words, lock_text, is_order as is_order_by};
 ghost use Rattle.pct_top.specs.commands.Locks.{PrintsLocks};
@@ -79,8 +78,7 @@ pub fn locks_of<R: Threads + Wait + Sync, G: Gate>(
     plan: RunPlan,
     gate: &G,
 ) -> Result<CommandOutput, NoMemory>
-    requires ready { IsReadyTest test.now }
-    requires whole { length plan.order ≡ test.now.deal.threads }
+    requires { length plan.order ≡ test.now.deal.threads }
     ensures { IfOk result (λ output. PrintsLocks (plain_script test.now.script) test.now.deal
         plan.order plan.points plan.limit (printed_of output)) }
 {

@@ -3,7 +3,6 @@
 ghost use Rattle.std.specs.Prelude.{◌≡◌, ◌++◌, OnOk, IfOk, length};
 ghost use Rattle.pct_ask.specs.TraceText.{line_text};
 ghost use Rattle.script_tree.specs.ScriptSeen.{plain_script};
-ghost use Rattle.pct_top.specs.Ready.{IsReadyTest};
 ghost use Rattle.pct_top.specs.CommandOutput.{printed_of};
 ghost use Rattle.pct_top.specs.commands.Races.{race_words, race_text, PrintsRaces};
 
@@ -53,8 +52,7 @@ pub fn races_of<R: Threads + Wait + Sync, G: Gate>(
     plan: RunPlan,
     gate: &G,
 ) -> Result<CommandOutput, NoMemory>
-    requires ready { IsReadyTest test.now }
-    requires whole { length plan.order ≡ test.now.deal.threads }
+    requires { length plan.order ≡ test.now.deal.threads }
     ensures { IfOk result (λ output. PrintsRaces (plain_script test.now.script) test.now.deal
         plan.order plan.points plan.limit (printed_of output)) }
 {

@@ -4,10 +4,9 @@ ghost use Rattle.std.specs.Prelude.{◌≡◌, ℕ, ◌∷◌, ◌++◌, List, S
 ghost use Rattle.pct_ask.specs.TraceText.{line_text};
 ghost use Rattle.script_tree.specs.ScriptSeen.{plain_script};
 ghost use Rattle.trace_text.specs.Trace.{IsTrace};
-ghost use Rattle.pct_top.specs.Ready.{IsReadyTest};
 ghost use Rattle.pct_top.specs.Printed.{trace_bytes};
 ghost use Rattle.pct_top.specs.Files.{Misses};
-ghost use Rattle.pct_top.specs.Reads.{KeepsFile, is_unread};
+ghost use Rattle.pct_top.specs.Reads.{KeepsFile, is_missed};
 ghost use Rattle.pct_top.specs.CommandOutput.{printed_of, Comes};
 ghost use Rattle.pct_top.specs.commands.Replay.{written_words, found_words, reply_text};
 ghost use Rattle.pct_top.specs.commands.Replay.{is_confirmed as is_confirmed_by, PrintsReply};
@@ -99,8 +98,7 @@ fn reply_to<R: Threads + Wait + Sync, G: Gate>(
     told: &TraceFile,
     gate: &G,
 ) -> Result<CommandOutput, NoMemory>
-    requires ready { IsReadyTest test.now }
-    requires trace { (bytes : List ℕ) × IsTrace bytes test.now.script.names told.now }
+    requires { (bytes : List ℕ) × IsTrace bytes test.now.script.names told.now }
     ensures { IfOk result (λ output.
         PrintsReply (plain_script test.now.script) test.now.deal told.now (printed_of output)) }
 {
@@ -119,13 +117,12 @@ pub fn reply_to_file<R: Threads + Wait + Sync, H: Shelf, G: Gate>(
     shelf: &mut H,
     gate: &G,
 ) -> Result<CommandOutput, Refusal>
-    requires ready { IsReadyTest test.now }
     ensures comes { Comes
         (λ files.
         OfReplay (take trace_bytes (files trace.now)) (plain_script test.now.script) test.now.deal)
         (H.files shelf.old)
         (Misses (Some trace.now) (H.failed shelf.old) (H.failed shelf.new)) result }
-    ensures keeps { KeepsFile (Some trace.now) (is_unread result) (H.failed shelf.old)
+    ensures keeps { KeepsFile (Some trace.now) (is_missed result) (H.failed shelf.old)
         (H.failed shelf.new) }
     ensures files { H.files shelf.new ≡ H.files shelf.old }
 {

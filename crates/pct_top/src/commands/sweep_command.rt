@@ -4,10 +4,9 @@ ghost use Rattle.std.specs.Prelude.{◌≡◌, ◌≤◌, ◌<◌, ◌-◌, All,
 ghost use Rattle.script_tree.specs.ScriptSeen.{plain_script};
 ghost use Rattle.report_text.specs.Report.{IsTellable};
 ghost use Rattle.sweep.specs.Choices.{choice_count, most_choices};
-ghost use Rattle.pct_top.specs.Ready.{IsReadyTest};
 ghost use Rattle.pct_top.specs.CommandOutput.{printed_of};
 ghost use Rattle.pct_top.specs.commands.Campaign.{frame_of as frame_by};
-ghost use Rattle.pct_top.specs.commands.Sweep.{told_as, AreTold, sweep_report};
+ghost use Rattle.pct_top.specs.commands.Sweep.{told_as, AreGroupsTold, sweep_report};
 ghost use Rattle.pct_top.specs.commands.Sweep.{too_many_text, OfSweep};
 
 use crate::command_output::CommandOutput;
@@ -94,7 +93,7 @@ impl SweepJob {
             (λ group. group.first < choice_count deal.now.threads steps (self.now.depth - 1))
             groups.now }
         ensures { IfOk result (λ told.
-            AreTold (frame_by deal.now self.now.depth steps self.now.limit) groups.now
+            AreGroupsTold (frame_by deal.now self.now.depth steps self.now.limit) groups.now
             told.items) }
     {
         let mut told = Vec::new(alloc);
@@ -118,23 +117,13 @@ impl SweepJob {
         test: &ReadyTest,
         gate: &G,
     ) -> Result<CommandOutput, NoMemory>
-        requires ready { IsReadyTest test.now }
         ensures { IfOk result (λ output. OfSweep self.now.depth self.now.steps self.now.limit
             self.now.json (plain_script test.now.script) test.now.deal (printed_of output)) }
     {
         let steps = steps_of(rt, alloc, test, self.steps, self.limit, self.serve, gate)?;
         let frame = frame_of(test, self.depth, steps, self.limit);
-        let points = self.depth.points();
         match sweep(
-            rt,
-            alloc,
-            &test.code,
-            &test.deal,
-            points,
-            frame.steps,
-            frame.limit,
-            self.serve,
-            gate,
+            rt, alloc, &test.code, &test.deal, self.depth, steps, self.limit, self.serve, gate,
         )? {
             Answer::Whole(swept) => {
                 let told = self.told_groups(alloc, &test.deal, steps, swept.groups.as_slice())?;

@@ -8,7 +8,7 @@ use Rattle.pct_top.specs.Plan.{asked, asked_by}
 use Rattle.pct_top.specs.Printed.{OfScript}
 use Rattle.pct_top.specs.commands.Big.{OfBig}
 use Rattle.pct_top.specs.Output.{script_file, OfTaken}
-use Rattle.pct_top.specs.Reads.{is_unread}
+use Rattle.pct_top.specs.Reads.{is_missed}
 use Rattle.pct_top.specs.Call.{LeavesShelf}
 use Rattle.pct_top.proofs.Comes.{gives_comes, comes_of_same}
 use Rattle.pct_top.proofs.Plans.{asked_file}
@@ -70,7 +70,7 @@ returns-in-OfFile-clause-shelf g c =
       files = g.H.Shelf.files c.over_file.new.shelf;
       failed = g.H.Shelf.failed c.over_file.new.shelf;
     } in
-    subst (λ (s : Settings). LeavesShelf (Ok s) (is_unread c.over_file.result) before after)
+    subst (λ (s : Settings). LeavesShelf (Ok s) (is_missed c.over_file.result) before after)
     (sym (c.plan_of.ensures ∙ ap asked_by plan.is
     ∙ ap (λ file. asked file plan.job) (sym c.as_str.ensures)))
     c.over_file.ensures.shelf

@@ -5,7 +5,7 @@ use Rattle.pct_top.specs.Plan.{asked}
 use Rattle.pct_top.specs.Output.{script_file, script_text, OfCommand}
 use Rattle.pct_top.specs.CommandOutput.{Comes}
 use Rattle.pct_top.specs.Files.{Misses}
-use Rattle.pct_top.specs.Reads.{is_read, is_unread}
+use Rattle.pct_top.specs.Reads.{is_read, is_missed}
 use Rattle.pct_top.specs.Call.{MissesSecond, ReadFailed}
 use Rattle.pct_top.proofs.Comes.{comes_untested, comes_tested, script_missed, second_missed}
 use Rattle.pct_top.proofs.Plans.{asked_file, asked_text}
@@ -55,7 +55,7 @@ returns-in-Ok-clause-comes g c =
     let spells = file_gives settings name file text before.files before.failed middle (Ok test)
     c.in-Ok.ensures.test in
     comes_tested before.files (script_text settings) (OfCommand settings)
-    (ReadFailed (Ok settings) before after) test spells c.in-Ok.ensures.ready missed
+    (ReadFailed (Ok settings) before after) test spells missed
     (second_missed settings before after middle script spells
     (file_kept settings name file false before.failed middle c.in-Ok.ensures.keeps))
     c.output.result
@@ -97,7 +97,7 @@ returns-in-Ok-clause-shelf g c =
       files = g.H.Shelf.files c.output.new.shelf;
       failed = g.H.Shelf.failed c.output.new.shelf;
     } in
-    leaves_both settings (is_unread c.output.result) before after
+    leaves_both settings (is_missed c.output.result) before after
     (c.output.ensures.files ∙ c.in-Ok.ensures.files) middle script
     (file_gives settings name file text before.files before.failed middle (Ok test)
     c.in-Ok.ensures.test)

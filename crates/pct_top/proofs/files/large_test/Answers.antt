@@ -17,8 +17,8 @@ gives_fault bytes scripts.NoMemory (Err refusal) is fault =
     subst (λ e. GivesText bytes (Err e)) (sym is) tt
 gives_fault bytes error (Ok test) is fault = absurd is
 
-pub returns-in_err-script-clause-test : goal.returns-in_err-script-clause-test
-returns-in_err-script-clause-test c =
+pub returns-in_err-script : goal.returns-in_err-script
+returns-in_err-script c =
     subst (λ bytes. GivesText bytes c.from_residual-in_err-script.result)
     (c.deref.ensures.value ∙ c.in_ok-bytes.ensures.layout)
     (gives_fault c.deref.result.now c.in_err-script.field-0.0 c.from_residual-in_err-script.result

@@ -10,6 +10,6 @@ returns-clause-test g c =
     let script = plain_script c.in_ok-of_script.field-0.script in
     first_bytes (g.H.Shelf.files c.args.shelf.now) c.args.file.now script_bytes
     c.in_ok-bytes.bytes.items (λ bytes. Spells bytes script) c.in_ok-bytes.ensures.first
-    (subst (Spells c.in_ok-bytes.bytes.items) (sym c.in_ok-of_script.ensures.script)
+    (subst (Spells c.in_ok-bytes.bytes.items) (sym c.in_ok-of_script.ensures)
     (subst (λ bytes. Spells bytes (plain_script c.in_ok-script.script)) c.deref.ensures.value
     c.in_ok-script.ensures.found))

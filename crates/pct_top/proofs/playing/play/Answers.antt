@@ -22,14 +22,14 @@ returns-clause-run g c =
     let P : List ℕ → Type 0 = λ points. IfOk c.run_by_points.result (λ (run : WholeRun).
     run_of script test.deal plan.order points plan.limit ≡ Some (run.events, run.verdict)) in
     subst P c.as_slice-points.ensures (subst O c.as_slice-order.ensures
-    (c.run_by_points.ensures.run script c.requires.ready))
+    (c.run_by_points.ensures.run script test.is_ready))
 
 pub returns-clause-known : goal.returns-clause-known
 returns-clause-known g c =
     let test = c.args.test.now in
     let limit = c.args.plan.now.limit in
     let script = plain_script test.script in
-    let ready = c.requires.ready in
+    let ready = test.is_ready in
     let plan = ByPoints c.as_slice-order.result.now c.as_slice-points.result.now in
     IfOk-weaker c.run_by_points.result
     (λ (run : WholeRun).

@@ -13,10 +13,11 @@ invariant_of-plan-clause-is_order g c =
     let order = c.from_vec-order.ensures ∙ c.in_ok-declared_order.ensures in
     ∣ subst IsOrder (sym order) (declared_is_order c.args.test.now.deal.threads) ∣₁
 
-pub play-requires-clause-whole : goal.play-requires-clause-whole
-play-requires-clause-whole g c κs within =
-    ap length (c.from_vec-order.ensures ∙ c.in_ok-declared_order.ensures)
-    ∙ length-range_with_len 0 c.args.test.now.deal.threads
+pub play-requires : goal.play-requires
+play-requires g c =
+    let whole = ap length (c.from_vec-order.ensures ∙ c.in_ok-declared_order.ensures)
+    ∙ length-range_with_len 0 c.args.test.now.deal.threads in
+    (c.type_bounds.sync-R, (c.type_bounds.sync-G, whole))
 
 pub returns : goal.returns
 returns g c =
@@ -24,7 +25,7 @@ returns g c =
     let script = plain_script test.script in
     let ended : Run = (c.in_ok-run.run'.events, c.in_ok-run.run'.verdict) in
     let order = c.from_vec-order.ensures ∙ c.in_ok-declared_order.ensures
-    ∙ ap (range_with_len 0) ((c.requires.ready).is_deal).threads in
+    ∙ ap (range_with_len 0) (test.is_ready.is_deal).threads in
     let O : List ℕ → Type 0 = λ o.
     run_of script test.deal o c.new-points.result c.args.limit ≡ Some ended in
     let P : List ℕ → Type 0 = λ p.

@@ -2,7 +2,7 @@ use Rattle.std.proofs.Common.{◌≡◌, Ok, Some, sym, subst}
 use Rattle.pct_outside.specs.Reading.{texts_of}
 use Rattle.pct_outside.specs.Told.{ShelfTold, StreamTold}
 use Rattle.pct_top.specs.Settings.{SettingsOrWord, settings}
-use Rattle.pct_top.specs.Call.{Answers, ReadsNone}
+use Rattle.pct_top.specs.Call.{AnswersCall, ReadsNone}
 use Rattle.pct_top.proofs.top.answer.Goals as goal
 
 pub returns-in-Ok-clause-unread : goal.returns-in-Ok-clause-unread
@@ -27,5 +27,6 @@ returns-in-Ok-clause-unread g c = λ none files.
       faults = g.O.Sink.faults c.print_settings.new.out;
       shorts = g.O.Sink.shorts c.print_settings.new.out;
     } in
-    subst (λ (taken : SettingsOrWord). Answers taken shelf shelf' out out' c.print_settings.result)
+    subst (λ (taken : SettingsOrWord).
+    AnswersCall taken shelf shelf' out out' c.print_settings.result)
     (sym same) (c.print_settings.ensures.unread (subst ReadsNone same none) files)

@@ -35,7 +35,7 @@ rank-requires g c =
       arith,
       length-rows (setup_of script c.args.test.now.deal c.new-depth.result c.in_ok-steps.steps
           c.new-limit.result) 1 20 c.in_ok-rows.rows
-          (c.in_ok-rows.ensures script c.requires.ready),
+          (c.in_ok-rows.ensures script c.args.test.now.is_ready),
     )
 
 pub returns : goal.returns
@@ -54,7 +54,7 @@ returns g c =
         groups,
         record {
           are = subst (Are 3) c.new-limit.ensures (subst (λ depth. Are depth c.new-limit.result)
-              c.new-depth.ensures (c.in_ok-rows.ensures script c.requires.ready));
+              c.new-depth.ensures (c.in_ok-rows.ensures script test.is_ready));
           ranked = c.in_ok-groups.ensures.ranking;
         },
         told_as c.in_ok-text.text.items c.all_pass-done.result c.args.pieces

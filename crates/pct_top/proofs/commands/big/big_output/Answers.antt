@@ -8,10 +8,10 @@ use Rattle.pct_top.proofs.commands.big.big_output.Goals as goal
 pub returns-in-Err : goal.returns-in-Err
 returns-in-Err g c =
     given_untested (layout (large_script c.args.pieces)) (OfBig c.args.pieces) c.in-Err.refusal
-    c.in-Err.ensures.test
+    c.in-Err.ensures
 
 pub returns-in_ok-big_of-in-Ok : goal.returns-in_ok-big_of-in-Ok
 returns-in_ok-big_of-in-Ok g c =
     given_tested (layout (large_script c.args.pieces)) (OfBig c.args.pieces) c.in-Ok.test
-    c.in-Ok.ensures.test c.in-Ok.ensures.ready (Ok c.in_ok-big_of-in-Ok.field-0)
+    c.in-Ok.ensures (Ok c.in_ok-big_of-in-Ok.field-0)
     c.in_ok-big_of-in-Ok.ensures

@@ -16,7 +16,7 @@ use Rattle.pct_top.proofs.commands.find.directive_of.Goals as goal
 
 pub find-requires-clause-script : goal.find-requires-clause-script
 find-requires-clause-script g c κs within =
-    (plain_script c.args.test.now.script, c.requires.ready)
+    (plain_script c.args.test.now.script, c.args.test.now.is_ready)
 
 pub find-requires-clause-order : goal.find-requires-clause-order
 find-requires-clause-order g c κs within =
@@ -31,7 +31,7 @@ find-requires-clause-points g c κs within =
 
 pub write_found-requires-clause-some : goal.write_found-requires-clause-some
 write_found-requires-clause-some g c =
-    let whole : length c.args.plan.order ≡ c.args.test.now.deal.threads = c.requires.whole in
+    let whole : length c.args.plan.order ≡ c.args.test.now.deal.threads = c.requires in
     let some : 1 ≤ c.args.test.now.deal.threads = c.args.test.now.deal.some_thread in
     omega (arith, ap length c.as_slice-order.ensures)
 
@@ -40,9 +40,9 @@ write_found-requires-clause-low g c =
     let test = c.args.test.now in
     let order = c.args.plan.order in
     let names = (plain_script test.script).names in
-    let whole : length order ≡ test.deal.threads = c.requires.whole in
+    let whole : length order ≡ test.deal.threads = c.requires in
     let some : 1 ≤ test.deal.threads = test.deal.some_thread in
-    let threads : test.deal.threads ≡ length names.threads = (c.requires.ready).is_deal.threads in
+    let threads : test.deal.threads ≡ length names.threads = test.is_ready.is_deal.threads in
     let below : last_of order < length order =
     (known_order order c.args.plan.is_order).below (length order - 1) (omega arith) in
     let low : last_of order < length names.threads = omega arith in
@@ -53,7 +53,7 @@ write_found-requires-clause-low g c =
 pub write_found-requires-clause-known : goal.write_found-requires-clause-known
 write_found-requires-clause-known g c =
     let test = c.args.test.now in
-    let ready = c.requires.ready in
+    let ready = test.is_ready in
     let script = plain_script test.script in
     let L : ℕ → Type 0 = λ limit. Finds test.deal (bodies_of script) c.as_slice-order.result.now
     c.as_slice-points.result.now limit c.in_ok-found.found in
@@ -67,7 +67,7 @@ write_found-requires-clause-known g c =
     subst (λ (names : NameLists). IsKnownFinding names c.in_ok-found.found) (sym c.names.ensures)
     (known-finding script test.deal ready.sound ready.is_deal c.args.plan.order
     c.args.plan.points c.args.plan.limit c.in_ok-found.found
-    (sym c.requires.whole) c.args.plan.points_fit.0
+    (sym c.requires) c.args.plan.points_fit.0
     (omega (arith, (c.steps.ensures.fits).1, c.steps.ensures.number))
     finds)
 
@@ -84,7 +84,7 @@ returns g c =
     c.args.plan.limit found in
     let finds = subst P c.as_slice-points.ensures
     (subst O c.as_slice-order.ensures
-    (subst L c.steps.ensures.number (c.in_ok-found.ensures script c.requires.ready))) in
+    (subst L c.steps.ensures.number (c.in_ok-found.ensures script test.is_ready))) in
     let written = c.in_ok-text.ensures.text
     ∙ ap (λ (names : NameLists). found_text names c.as_slice-order.result.now found)
     c.names.ensures

@@ -16,7 +16,7 @@ use Rattle.pct_top.proofs.commands.races.races_of.Goals as goal
 pub races-requires-clause-in_range : goal.races-requires-clause-in_range
 races-requires-clause-in_range g c =
     let test = c.args.test.now in
-    let ready = c.requires.ready in
+    let ready = test.is_ready in
     let of = all_in_range (plain_script test.script) test.deal ready.sound ready.is_deal
     (trace_version (plain_script test.script))
     c.in_ok-run.run'.events c.in_ok-run.ensures.known.steps in

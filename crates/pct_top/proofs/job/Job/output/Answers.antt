@@ -1,6 +1,6 @@
 use Rattle.std.proofs.Common.{ℕ, List, Some, inl, refl, take, subst}
 use Rattle.script_tree.specs.ScriptSeen.{plain_script}
-use Rattle.pct_top.specs.Printed.{Files, Printed, trace_bytes, directive_bytes}
+use Rattle.pct_top.specs.Printed.{NamedFiles, Printed, trace_bytes, directive_bytes}
 use Rattle.pct_top.specs.Ordered.{OrderFits}
 use Rattle.pct_top.specs.Files.{Misses}
 use Rattle.pct_top.specs.CommandOutput.{Comes}
@@ -52,7 +52,7 @@ returns-in-Replay-clause-comes g c =
     let told = g.H.Shelf.files c.args.shelf.now in
     let failed = g.H.Shelf.failed c.args.shelf.now in
     let failed' = g.H.Shelf.failed c.reply_to_file.new.shelf in
-    let Of : List ℕ → Files → Printed → Type 0 = λ name files.
+    let Of : List ℕ → NamedFiles → Printed → Type 0 = λ name files.
     OfReplay (take trace_bytes (files name)) (plain_script test.script) test.deal in
     let P : List ℕ → Type 0 = λ name.
     Comes (Of name) told (Misses (Some name) failed failed') c.reply_to_file.result in
@@ -83,7 +83,7 @@ returns-in-Certify-clause-comes g c =
     let failed = g.H.Shelf.failed c.args.shelf.now in
     let failed' = g.H.Shelf.failed c.certify_file.new.shelf in
     let job = c.in-Certify.certify in
-    let Of : List ℕ → Files → Printed → Type 0 = λ name files.
+    let Of : List ℕ → NamedFiles → Printed → Type 0 = λ name files.
     OfCertify (take directive_bytes (files name)) job.steps job.limit script test.deal in
     let P : List ℕ → Type 0 = λ name.
     Comes (Of name) told (Misses (Some name) failed failed') c.certify_file.result in

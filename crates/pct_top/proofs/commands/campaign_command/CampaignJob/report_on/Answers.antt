@@ -18,7 +18,7 @@ rank-requires g c =
       arith,
       length-rows (setup_of script c.args.test.now.deal job.depth c.in_ok-steps.steps
           job.limit) job.first job.count c.in_ok-rows.rows
-          (c.in_ok-rows.ensures script c.requires.ready),
+          (c.in_ok-rows.ensures script c.args.test.now.is_ready),
     )
 
 pub write_report-requires-clause-rows : goal.write_report-requires-clause-rows
@@ -26,7 +26,7 @@ write_report-requires-clause-rows g c =
     let job = c.args.self.now in
     let test = c.args.test.now in
     let script = plain_script test.script in
-    let ready = c.requires.ready in
+    let ready = test.is_ready in
     rows-known script test.deal ready.sound ready.is_deal job.depth c.in_ok-steps.steps
     job.limit job.first job.count c.in_ok-rows.rows (c.in_ok-rows.ensures script ready)
 
@@ -35,7 +35,7 @@ write_report-requires-clause-groups g c =
     let job = c.args.self.now in
     let test = c.args.test.now in
     let script = plain_script test.script in
-    let ready = c.requires.ready in
+    let ready = test.is_ready in
     groups_have (IsWritable script.names) c.in_ok-rows.rows c.in_ok-groups.groups
     c.in_ok-groups.ensures.ranking
     (rows-known script test.deal ready.sound ready.is_deal job.depth c.in_ok-steps.steps
@@ -59,7 +59,7 @@ returns g c =
         rows,
         groups,
         record {
-          are = c.in_ok-rows.ensures script c.requires.ready;
+          are = c.in_ok-rows.ensures script c.args.test.now.is_ready;
           ranked = c.in_ok-groups.ensures.ranking;
         },
         λ i. printed_text (written i) (done i),

@@ -11,7 +11,7 @@ pub write_certificate-requires : goal.write_certificate-requires
 write_certificate-requires g c =
     let job = c.args.self.now in
     let test = c.args.test.now in
-    let ready = c.requires.ready in
+    let ready = test.is_ready in
     let script = plain_script test.script in
     let certified = c.in_ok-certified.certified in
     subst (λ (names : NameLists). IsKnownCertificate names certified) (sym c.names.ensures)
@@ -28,6 +28,6 @@ returns g c =
     ∙ ap (λ (names : NameLists). certificate_text names certified) c.names.ensures in
     let done = c.is_certified-done.ensures in (
       certified,
-      c.in_ok-certified.ensures script c.requires.ready,
+      c.in_ok-certified.ensures script test.is_ready,
       λ i. printed_text (written i) (done i),
     )

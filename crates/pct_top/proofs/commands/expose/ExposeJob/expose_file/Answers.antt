@@ -3,7 +3,7 @@ use Rattle.pct_ask.specs.NameLists.{NameLists}
 use Rattle.script_tree.specs.ScriptSeen.{plain_script}
 use Rattle.directive.specs.declared.directive.Directive.{Directive}
 use Rattle.pct_top.specs.Ordered.{NamesAll, OrderFits}
-use Rattle.pct_top.specs.Printed.{Files, Printed, directive_bytes, OfDirective}
+use Rattle.pct_top.specs.Printed.{NamedFiles, Printed, directive_bytes, OfDirective}
 use Rattle.pct_top.specs.Files.{Misses, GivesDirective, HasDirective}
 use Rattle.pct_top.specs.CommandOutput.{printed_of}
 use Rattle.pct_top.specs.commands.Expose.{PrintsExposed}
@@ -26,7 +26,7 @@ returns-in-Err-read_directed-clause-comes g c =
     let gives = subst I c.as_slice.ensures (subst N c.names-names.ensures c.in-Ok.ensures) in
     let Of : List ℕ → Directive → Printed → Type 0 = λ o.
     PrintsExposed (plain_script test.script) test.deal o job.steps job.limit in
-    let over : Files → List ℕ → Printed → Type 0 = λ files o.
+    let over : NamedFiles → List ℕ → Printed → Type 0 = λ files o.
     OfDirective (take directive_bytes (files file)) names (Of o) in
     let refusal = c.in-Err-read_directed.refusal in
     let G : NameLists → Type 0 = λ known. GivesDirective told file known missed (Err refusal) in
@@ -52,7 +52,7 @@ returns-in_ok-exposed_by-in-Ok-read_directed-clause-comes g c =
     let gives = subst I c.as_slice.ensures (subst N c.names-names.ensures c.in-Ok.ensures) in
     let Of : List ℕ → Directive → Printed → Type 0 = λ o.
     PrintsExposed (plain_script test.script) test.deal o job.steps job.limit in
-    let over : Files → List ℕ → Printed → Type 0 = λ files o.
+    let over : NamedFiles → List ℕ → Printed → Type 0 = λ files o.
     OfDirective (take directive_bytes (files file)) names (Of o) in
     let plan = c.in-Ok-read_directed.directive in
     let H : NameLists → Type 0 = λ known. HasDirective told file known plan in

@@ -28,7 +28,7 @@ told_exposed-requires-clause-exposed g c =
     let L : ℕ → Type 0 = λ limit. Exposes test.deal (bodies_of script) c.as_slice.result.now
     c.args.directive.now.events job.steps limit c.in_ok-exposed.exposed in
     subst O c.as_slice.ensures
-    (subst L c.steps.ensures.number (c.in_ok-exposed.ensures script c.requires.ready))
+    (subst L c.steps.ensures.number (c.in_ok-exposed.ensures script test.is_ready))
 
 told : {E : Type 0} (script : ScriptText) (deal : Deal) (order : List ℕ) (steps limit : ℕ)
     (directive : Directive) (exposed : Exposed) (r : Result CommandOutput E)
@@ -51,5 +51,5 @@ returns g c =
     told script test.deal c.args.plan.order job.steps c.args.plan.limit c.args.directive.now exposed
     c.told_exposed.result
     (subst O c.as_slice.ensures
-    (subst L c.steps.ensures.number (c.in_ok-exposed.ensures script c.requires.ready)))
+    (subst L c.steps.ensures.number (c.in_ok-exposed.ensures script test.is_ready)))
     c.told_exposed.ensures

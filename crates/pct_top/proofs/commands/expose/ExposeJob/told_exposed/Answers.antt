@@ -15,7 +15,7 @@ pub told_trace-requires-clause-known : goal.told_trace-requires-clause-known
 told_trace-requires-clause-known c =
     let job = c.args.self.now in
     let test = c.args.test.now in
-    let ready = c.requires.ready in
+    let ready = test.is_ready in
     let script = plain_script test.script in
     let plan = c.args.plan in
     let events = c.args.directive.now.events in
@@ -38,7 +38,7 @@ pub invariant_of-plan-clause-points_fit : goal.invariant_of-plan-clause-points_f
 invariant_of-plan-clause-points_fit c =
     let job = c.args.self.now in
     let test = c.args.test.now in
-    let ready = c.requires.ready in
+    let ready = test.is_ready in
     let script = plain_script test.script in
     let plan = c.args.plan in
     let directive = c.args.directive.now in

@@ -4,62 +4,34 @@ use Rattle.std.proofs.Common.{◌≡◌, ◌<◌, ◌-◌, ℕ, List, sym, ap, s
 use Rattle.pct_ask.specs.declared.Deal.{Deal}
 use Rattle.script_tree.specs.ScriptText.{ScriptText}
 use Rattle.script_tree.specs.ScriptSeen.{plain_script}
-use Rattle.script_body.specs.Bodies.{bodies_of}
 use Rattle.failure_rank.specs.declared.group.Group.{Group}
 use Rattle.report_text.specs.Report.{IsTellable}
 use Rattle.report_text.specs.declared.frame.Frame.{Frame}
 use Rattle.sweep.specs.Choices.{choice_count}
-use Rattle.sweep.specs.Rows.{Setup}
 use Rattle.sweep.specs.Swept.{Sweeps}
 use Rattle.sweep.specs.declared.sweeping.Answer.{Answer}
 use Rattle.sweep.specs.declared.sweeping.Answer.TheVariants.{Whole, TooMany}
 use Rattle.pct_top.specs.Printed.{printed_text}
 use Rattle.pct_top.specs.commands.Campaign.{frame_of}
-use Rattle.pct_top.specs.commands.Sweep.{swept_setup, AreTold, sweep_report}
+use Rattle.pct_top.specs.commands.Sweep.{swept_setup, AreGroupsTold, sweep_report}
 use Rattle.pct_top.specs.commands.Sweep.{too_many_text}
 use Rattle.pct_top.proofs.KnownSwept.{first-choices, told-known}
 use Rattle.pct_top.proofs.commands.sweep_command.SweepJob.report_on.Goals as goal
 
--- what was swept with the frame's numbers is what the job asks for
-swept : (script : ScriptText) (deal : Deal) (depth steps limit points : ℕ) (frame : Frame)
-    (answer other : Answer) → frame ≡ frame_of deal depth steps limit → points ≡ depth - 1
-    → answer ≡ other
-    → Sweeps (record {
-      deal = deal;
-      bodies = bodies_of script;
-      many = points;
-      steps = frame.steps;
-      limit = frame.limit;
-    }) answer
+-- what was swept is what the job asks for
+swept : (script : ScriptText) (deal : Deal) (depth steps limit : ℕ) (answer other : Answer)
+    → answer ≡ other → Sweeps (swept_setup script deal depth steps limit) answer
     → Sweeps (swept_setup script deal depth steps limit) other
-swept script deal depth steps limit points frame answer other made many same is =
-    let setups : Setup = swept_setup script deal depth steps limit in
-    let S : Setup → Type 0 = λ setup. Sweeps setup other in
-    subst S (λ i. record {
-      deal = deal;
-      bodies = bodies_of script;
-      many = many i;
-      steps = (made i).steps;
-      limit = (made i).limit;
-    })
-    (subst (Sweeps (record {
-      deal = deal;
-      bodies = bodies_of script;
-      many = points;
-      steps = frame.steps;
-      limit = frame.limit;
-    })) same is)
+swept script deal depth steps limit answer other same is =
+    subst (Sweeps (swept_setup script deal depth steps limit)) same is
 
 pub told_groups-requires-clause-few : goal.told_groups-requires-clause-few
 told_groups-requires-clause-few g c =
     let job = c.args.self.now in
     let test = c.args.test.now in
-    let frame = c.frame_of-frame.result in
-    let made = c.frame_of-frame.ensures.made in
     let sweeps = swept (plain_script test.script) test.deal job.depth c.in_ok-steps.steps
-    job.limit c.points-points.result frame c.in_ok-swept.field-0 (Whole c.in-Whole.swept) made
-    c.points-points.ensures.number c.in-Whole.is
-    (c.in_ok-swept.ensures (plain_script test.script) c.requires.ready) in
+    job.limit c.in_ok-swept.field-0 (Whole c.in-Whole.swept) c.in-Whole.is
+    (c.in_ok-swept.ensures (plain_script test.script) test.is_ready) in
     sweeps.0
 
 pub told_groups-requires-clause-first : goal.told_groups-requires-clause-first
@@ -68,11 +40,8 @@ told_groups-requires-clause-first g c =
     let test = c.args.test.now in
     let script = plain_script test.script in
     let steps = c.in_ok-steps.steps in
-    let made = c.frame_of-frame.ensures.made in
-    let sweeps = swept script test.deal job.depth steps job.limit c.points-points.result
-    c.frame_of-frame.result c.in_ok-swept.field-0 (Whole c.in-Whole.swept) made
-    c.points-points.ensures.number c.in-Whole.is
-    (c.in_ok-swept.ensures script c.requires.ready) in
+    let sweeps = swept script test.deal job.depth steps job.limit c.in_ok-swept.field-0
+    (Whole c.in-Whole.swept) c.in-Whole.is (c.in_ok-swept.ensures script test.is_ready) in
     let many = choice_count test.deal.threads steps (job.depth - 1) in
     subst (All (λ (group : Group). group.first < many)) (sym c.as_slice.ensures)
     (first-choices (swept_setup script test.deal job.depth steps job.limit) c.in-Whole.swept
@@ -83,15 +52,13 @@ write_report-requires g c =
     let job = c.args.self.now in
     let test = c.args.test.now in
     let script = plain_script test.script in
-    let ready = c.requires.ready in
+    let ready = test.is_ready in
     let steps = c.in_ok-steps.steps in
-    let made = c.frame_of-frame.ensures.made in
-    let sweeps = swept script test.deal job.depth steps job.limit c.points-points.result
-    c.frame_of-frame.result c.in_ok-swept.field-0 (Whole c.in-Whole.swept) made
-    c.points-points.ensures.number c.in-Whole.is (c.in_ok-swept.ensures script ready) in
+    let sweeps = swept script test.deal job.depth steps job.limit c.in_ok-swept.field-0
+    (Whole c.in-Whole.swept) c.in-Whole.is (c.in_ok-swept.ensures script ready) in
     let told = c.in_ok-told-in-Whole.told.items in
     let Told : List Group → Type 0 =
-    λ groups. AreTold (frame_of test.deal job.depth steps job.limit) groups told in
+    λ groups. AreGroupsTold (frame_of test.deal job.depth steps job.limit) groups told in
     subst (All (IsTellable script.names)) (sym c.as_slice-told.ensures.value)
     (told-known script test.deal ready.sound ready.is_deal job.depth steps job.limit
     c.in-Whole.swept told sweeps.1 (subst Told c.as_slice.ensures c.in_ok-told-in-Whole.ensures))
@@ -107,7 +74,7 @@ returns-in_ok-text-in-Whole g c =
     let made = c.frame_of-frame.ensures.made in
     let told = c.in_ok-told-in-Whole.told.items in
     let Told : List Group → Type 0 =
-    λ groups. AreTold (frame_of test.deal job.depth steps job.limit) groups told in
+    λ groups. AreGroupsTold (frame_of test.deal job.depth steps job.limit) groups told in
     let text : Frame → List ℕ = λ frame. sweep_report job.json script frame whole told in
     let written = c.in_ok-text-in-Whole.ensures
     ∙ ap (sweep_report job.json script frame whole) c.as_slice-told.ensures.value
@@ -117,9 +84,8 @@ returns-in_ok-text-in-Whole g c =
       c.in_ok-steps.ensures,
       (
         Whole whole,
-        swept script test.deal job.depth steps job.limit c.points-points.result frame
-            c.in_ok-swept.field-0 (Whole whole) made c.points-points.ensures.number c.in-Whole.is
-            (c.in_ok-swept.ensures script c.requires.ready),
+        swept script test.deal job.depth steps job.limit c.in_ok-swept.field-0 (Whole whole)
+            c.in-Whole.is (c.in_ok-swept.ensures script test.is_ready),
         (
           told,
           subst Told c.as_slice.ensures c.in_ok-told-in-Whole.ensures,
@@ -139,10 +105,8 @@ returns-in_ok-too_many-in-TooMany g c =
       c.in_ok-steps.ensures,
       (
         TooMany,
-        swept script test.deal job.depth steps job.limit c.points-points.result
-            c.frame_of-frame.result c.in_ok-swept.field-0 TooMany made
-            c.points-points.ensures.number c.in-TooMany.is
-            (c.in_ok-swept.ensures script c.requires.ready),
+        swept script test.deal job.depth steps job.limit c.in_ok-swept.field-0 TooMany
+            c.in-TooMany.is (c.in_ok-swept.ensures script test.is_ready),
         ap (λ (text : List ℕ). printed_text text false)
             (c.in_ok-too_many-in-TooMany.ensures ∙ ap (λ (frame : Frame).
             too_many_text frame.threads) made),
