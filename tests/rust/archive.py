@@ -25,19 +25,6 @@ def environment(**more: str) -> dict[str, str]:
     return {**kept, "CARGO_NET_OFFLINE": "true", "RUST_BACKTRACE": "0", "CARGO_TERM_COLOR": "never", **more}
 
 
-def unpacked(room: pathlib.Path) -> pathlib.Path | None:
-    """The files of the archive below a prefix of their own; none where there is no archive."""
-    made = subprocess.run([TOP / "dist", room], capture_output=True, text=True, check=False)
-    archives = list(room.glob("pct-*.tar.gz"))
-    if made.returncode or len(archives) != 1:
-        print(made.stdout + made.stderr)
-        return None
-    prefix = room / "prefix"
-    prefix.mkdir()
-    subprocess.run(["tar", "-C", prefix, "--strip-components", "1", "-xzf", archives[0]], check=True)
-    return prefix
-
-
 def linked_paths(crate: pathlib.Path, **more: str) -> tuple[list[str], str]:
     """Where the crate's build looks for libraries, and what it says. It is made anew each time."""
     words = ["cargo", "check", "--quiet", "--message-format", "json"]

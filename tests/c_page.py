@@ -1,0 +1,36 @@
+"""docs/c.md as its reader has it: the archive that ./dist makes, and the page's lines run beside it."""
+
+from __future__ import annotations
+
+import os
+import pathlib
+import re
+import subprocess
+
+from unpacked import unpacked
+
+
+class Page:
+    """The archive that ./dist makes, unpacked, and an empty folder in which docs/c.md's lines are run."""
+
+    def __init__(self, room: str) -> None:
+        self.folder = os.path.join(room, "alone")
+        os.mkdir(self.folder)
+        prefix = unpacked(pathlib.Path(room))
+        if prefix is None:
+            raise RuntimeError("./dist made no archive")
+        library = os.path.join(prefix, "lib")
+        self.paths = {"PKG_CONFIG_PATH": os.path.join(library, "pkgconfig"), "LD_LIBRARY_PATH": library}
+        with open(os.path.join(prefix, "share", "doc", "pct", "docs", "c.md"), encoding="utf-8") as file:
+            self.text = file.read().replace("/usr/local", str(prefix))
+
+    def blocks(self, kind: str) -> list[str]:
+        return re.findall(rf"^```{kind}\n(.*?)^```$", self.text, re.M | re.S)
+
+    def here(self, lines: str) -> subprocess.CompletedProcess[str]:
+        return subprocess.run(["sh", "-c", lines], capture_output=True, text=True, check=False, cwd=self.folder,
+                              env={**os.environ, **self.paths})
+
+    def write(self, name: str, text: str) -> None:
+        with open(os.path.join(self.folder, name), "w", encoding="utf-8") as file:
+            file.write(text)
