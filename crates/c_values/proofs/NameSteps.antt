@@ -6,7 +6,8 @@ use Rattle.pct_ask.specs.Lines.{lines_of}
 use Rattle.pct_ask.specs.NameLists.{NameLists, no_names}
 use Rattle.pct_ask.specs.Pieces.{seen}
 use Rattle.pct_ask.specs.VerdictWords.{words_of}
-use Rattle.c_values.specs.NamesText.{kind_in, joined_by, with_words, with_lines, names_of_text}
+use Rattle.pct_ask.specs.NameLists.{kind_in}
+use Rattle.c_values.specs.NamesText.{joined_by, with_words, with_lines, names_of_text}
 
 pub begins : (text iterator items : List ℕ) (names : NameLists) → names ≡ no_names
     → iterator ≡ items → items ≡ text → names_of_text text ≡ with_lines names (lines_of iterator)

@@ -1,33 +1,18 @@
 -- The names of a test as a text (this project): a line for each, its kind's word and the name.
--- Those
--- of one kind stand in the order of their places.
-use Rattle.std.specs.Prelude.{ℕ, Bool, ◌&&◌, not, nat_lt, if◌then◌else◌, codes, bytes_eq}
+-- Those of one kind stand in the order of their places.
+use Rattle.std.specs.Prelude.{ℕ, Bool, ◌&&◌, not, nat_lt, if◌then◌else◌}
 use Rattle.std.specs.Prelude.{List, [], ◌∷◌, length, Option, Some, None}
 use Rattle.std.specs.Option.{option_and_then}
-use Rattle.pct_ask.specs.NameLists.{NameLists, no_names, with_name, list_of, all_names}
+use Rattle.pct_ask.specs.NameLists.{NameLists, kind_in, no_names, with_name, list_of}
+use Rattle.pct_ask.specs.NameLists.{all_names}
 use Rattle.pct_ask.specs.Words.{is_name, is_among}
 use Rattle.pct_ask.specs.Lines.{lines_of}
 use Rattle.pct_ask.specs.VerdictWords.{words_of}
 use Rattle.pct_ask.specs.declared.names.NameKind.{NameKind}
-use Rattle.pct_ask.specs.declared.names.NameKind.TheVariants.{Thread, Var, Mutex, Cond, Sem}
-use Rattle.pct_ask.specs.declared.names.NameKind.TheVariants.{Barrier, RwLock}
 use Rattle.pct_ask.specs.declared.limits.TheConstants.{MAX_OBJECTS}
 
--- the kind that a word says
-abbrev pub kind_in : List ℕ → Option NameKind
-kind_in word =
-    if bytes_eq word (codes "thread") then Some Thread
-    else (if bytes_eq word (codes "var") then Some Var
-    else (if bytes_eq word (codes "mutex") then Some Mutex
-    else (if bytes_eq word (codes "cond") then Some Cond
-    else (if bytes_eq word (codes "sem") then Some Sem
-    else (if bytes_eq word (codes "barrier") then Some Barrier
-    else (if bytes_eq word (codes "rwlock") then Some RwLock
-    else None))))))
-
 -- Whether a name may join those of a kind: it is a lawful name, stands for nothing yet, and there
--- is
--- room.
+-- is room.
 abbrev pub may_join : NameLists → NameKind → List ℕ → Bool
 may_join names kind name =
     is_name 1 name

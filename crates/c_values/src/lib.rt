@@ -10,7 +10,7 @@
 //! - A deal has the counts and first values that the numbers say, and names those of a text's
 //!   lines; none exactly where some are out of range or may not stand beside the others: `deal_of`:
 //!   `deal`, `lawful` (`SaysDeal`, `AreLawfulCounts`); `deal_said`; `deal_of_names`; `names_of`;
-//!   `names_said`; `kind_of` (`names_of_text`).
+//!   `names_said` (`names_of_text`).
 #![tactic(auto)]
 
 mod ask;
@@ -26,7 +26,7 @@ pub use ask::{PctAsk, ask_of, numbers_of_ask};
 pub use deal::{PctDeal, deal_of, deal_of_names, deal_said};
 pub use event::{PctEvent, event_of, events_of, numbers_of_event, steps_of};
 pub use moment::{PctMoment, moments_said, numbers_of_moment};
-pub use names::{kind_of, names_of, names_said};
+pub use names::{names_of, names_said};
 pub use outcome::{PctOutcome, numbers_of_outcome, numbers_of_verdict, verdict_said};
 pub use refused::Refused;
 pub use row::{PctRow, rows_of};

@@ -1,42 +1,13 @@
 //! The names of a test, read from a text.
 
-ghost use Rattle.std.specs.Prelude.{◌≡◌, true, false, None, Some, IfOk, bytes_eq};
+ghost use Rattle.std.specs.Prelude.{◌≡◌, true, false, None, Some, IfOk};
 ghost use Rattle.pct_ask.specs.VerdictWords.{words_of};
-ghost use Rattle.c_values.specs.NamesText.{kind_in, with_words, joined_by, names_of_text};
+ghost use Rattle.c_values.specs.NamesText.{with_words, joined_by, names_of_text};
 ghost use Rattle.c_values.specs.Told.{Answers};
 
 use crate::refused::Refused;
 use pct_ask::{MAX_OBJECTS, NameKind, Names, first_words, is_lawful_name, split_lines};
 use std::alloc::{AllocError as NoMemory, Global};
-
-fn says(word: &[u8], other: &[u8]) -> bool
-    ensures { result ≡ bytes_eq word.now other.now }
-{
-    word == other
-}
-
-/// The kind that a word says.
-pub fn kind_of(word: &[u8]) -> Option<NameKind>
-    ensures { result ≡ kind_in word.now }
-{
-    if says(word, b"thread") {
-        Some(NameKind::Thread)
-    } else if says(word, b"var") {
-        Some(NameKind::Var)
-    } else if says(word, b"mutex") {
-        Some(NameKind::Mutex)
-    } else if says(word, b"cond") {
-        Some(NameKind::Cond)
-    } else if says(word, b"sem") {
-        Some(NameKind::Sem)
-    } else if says(word, b"barrier") {
-        Some(NameKind::Barrier)
-    } else if says(word, b"rwlock") {
-        Some(NameKind::RwLock)
-    } else {
-        None
-    }
-}
 
 /// Adds a name of a kind. `false` where it may not join the names.
 fn join(
@@ -69,7 +40,7 @@ fn join_line(alloc: Global, names: &mut Names, line: &[u8]) -> Result<bool, NoMe
     if words.len() != 2 {
         return Ok(false);
     }
-    join(alloc, names, kind_of(words[0]), words[1])
+    join(alloc, names, NameKind::of(words[0]), words[1])
 }
 
 /// The names that a text says. `None` where a line of it says none that may join those before it.

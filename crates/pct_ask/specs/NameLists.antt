@@ -1,5 +1,6 @@
 -- The names of a test's threads and objects (this project).
-use Rattle.std.specs.Prelude.{◌≡◌, ℕ, ◌≤◌, true, false, Option, List, [], ◌∷◌, ◌++◌, length, All}
+use Rattle.std.specs.Prelude.{◌≡◌, ℕ, ◌≤◌, true, false, if◌then◌else◌, codes}
+use Rattle.std.specs.Prelude.{Option, Some, None, List, [], ◌∷◌, ◌++◌, length, All}
 use Rattle.std.specs.List.{position}
 use Rattle.std.specs.Str.{bytes_eq}
 use Rattle.pct_ask.specs.Words.{is_name, is_among}
@@ -7,6 +8,18 @@ use Rattle.pct_ask.specs.declared.names.NameKind.{NameKind}
 use Rattle.pct_ask.specs.declared.names.NameKind.TheVariants.{Thread, Var, Mutex, Cond, Sem}
 use Rattle.pct_ask.specs.declared.names.NameKind.TheVariants.{Barrier, RwLock}
 use Rattle.pct_ask.specs.declared.limits.TheConstants.{MAX_OBJECTS}
+
+-- the kind that a word declares
+abbrev pub kind_in : List ℕ → Option NameKind
+kind_in word =
+    if bytes_eq word (codes "thread") then Some Thread
+    else (if bytes_eq word (codes "var") then Some Var
+    else (if bytes_eq word (codes "mutex") then Some Mutex
+    else (if bytes_eq word (codes "cond") then Some Cond
+    else (if bytes_eq word (codes "sem") then Some Sem
+    else (if bytes_eq word (codes "barrier") then Some Barrier
+    else (if bytes_eq word (codes "rwlock") then Some RwLock
+    else None))))))
 
 -- the names of each kind, in the order of their places
 pub record NameLists : Type 0 where

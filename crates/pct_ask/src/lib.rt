@@ -10,6 +10,7 @@
 //!   `Sequence::as_slice`; `Sequence::try_push`: `ok`, `err`; `Sequence::copy`; `Deal::copy`.
 //! - An ask names only what a deal has, exactly where the deal says so: `Deal::has_objects_of`
 //!   (`IsInRange`).
+//! - A word declares the kind that is stated: `NameKind::of` (`kind_in`).
 //! - Names have one place each among their kind and are lawful; a name is found exactly where it is
 //!   there, and a refused `add` changes nothing: `Names::new`; `Names::add`: `place`, `added`,
 //!   `unchanged`; `Names::find`: `place`, `lawful`; `Names::name`: `name`; `Names::count`: `count`;

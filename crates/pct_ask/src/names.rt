@@ -1,8 +1,9 @@
 ghost use Rattle.std.specs.Prelude.{◌≡◌, ◌<◌, length, slice_get, IfOk, OnOk, OnErr, option_copied};
 ghost use Rattle.std.specs.Prelude.{false, true};
+ghost use Rattle.std.specs.Str.{bytes_eq};
 ghost use Rattle.pct_ask.specs.Words.{is_name, is_among};
-ghost use Rattle.pct_ask.specs.NameLists.{no_names, list_of, with_name, all_names, place_of};
-ghost use Rattle.pct_ask.specs.NameLists.{AreNames};
+ghost use Rattle.pct_ask.specs.NameLists.{kind_in, no_names, list_of, with_name, all_names};
+ghost use Rattle.pct_ask.specs.NameLists.{place_of, AreNames};
 ghost use Rattle.pct_ask.specs.declared.limits.TheConstants.{MAX_OBJECTS};
 
 use crate::sequence::Sequence;
@@ -19,6 +20,37 @@ pub enum NameKind {
     Sem,
     Barrier,
     RwLock,
+}
+
+fn says(word: &[u8], other: &[u8]) -> bool
+    ensures { result ≡ bytes_eq word.now other.now }
+{
+    word == other
+}
+
+impl NameKind {
+    /// The kind that a word declares.
+    pub fn of(word: &[u8]) -> Option<NameKind>
+        ensures { result ≡ kind_in word.now }
+    {
+        if says(word, b"thread") {
+            Some(NameKind::Thread)
+        } else if says(word, b"var") {
+            Some(NameKind::Var)
+        } else if says(word, b"mutex") {
+            Some(NameKind::Mutex)
+        } else if says(word, b"cond") {
+            Some(NameKind::Cond)
+        } else if says(word, b"sem") {
+            Some(NameKind::Sem)
+        } else if says(word, b"barrier") {
+            Some(NameKind::Barrier)
+        } else if says(word, b"rwlock") {
+            Some(NameKind::RwLock)
+        } else {
+            None
+        }
+    }
 }
 
 type Name = Sequence<u8>;

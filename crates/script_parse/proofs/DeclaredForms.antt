@@ -20,7 +20,7 @@ use Rattle.script_tree.specs.Forms.{is_plain, value_in, tokens_of_form, IsFormOf
 use Rattle.script_tree.specs.Lines.{declared_value, values_of, just_thread}
 use Rattle.script_parse.specs.Part.{Open, ReadPart}
 use Rattle.script_parse.specs.Part as parts
-use Rattle.script_parse.specs.Words.{kind_in}
+use Rattle.pct_ask.specs.NameLists.{kind_in}
 use Rattle.script_parse.specs.Reading as reading
 use Rattle.script_parse.specs.Reading.{Finder, with_form}
 use Rattle.script_parse.proofs.Meanings.{by_meaning}
@@ -53,7 +53,8 @@ said_declared part (Some s) = record {
   threads = refl;
 }
 
-closed_declared : (part : ReadPart) (blocks : List Open) (opening : parts.Opening) (body : Statements)
+closed_declared : (part : ReadPart) (blocks : List Open) (opening : parts.Opening)
+    (body : Statements)
     → KeepsDeclared part (reading.closed_block (record part { open_blocks = blocks }) opening body)
 closed_declared part blocks (parts.Thread line) body = record {
   version = refl;
@@ -111,7 +112,8 @@ turned_declared part [] n = record {
 turned_declared part (block ∷ blocks) n = turned_by_declared part block blocks n block.opening
 
 -- what a line adds: first values, and a thread
-pub record Adds (part next : ReadPart) (lines : List (List Token)) (line : List Token) : Type 0 where
+pub record Adds (part next : ReadPart) (lines : List (List Token)) (line : List Token) : Type
+    0 where
   pub version : next.version ≡ part.version
   pub values : AreValues next (lines ++ line ∷ [])
   pub thread : part.names.threads ++ filter_map just_thread (line ∷ []) ≡ next.names.threads

@@ -13,7 +13,8 @@ use Rattle.script_parse.specs.Reading.{Finder, so_far_in, is_known_name, form_fa
 use Rattle.script_parse.proofs.Choices.{unchosen}
 
 -- a line of this form has no fault
-pub record NoFault (part : ReadPart) (find : Finder) (tokens : List Token) (meant : MeantForm) : Type
+pub record NoFault (part : ReadPart) (find : Finder) (tokens : List Token)
+    (meant : MeantForm) : Type
     0 where
   pub stands : faults.may_stand (so_far_in part) meant ≡ true
   pub known : faults.uses_unknown (is_known_name part.names find) meant ≡ false

@@ -26,7 +26,7 @@ use Rattle.script_tree.specs.Forms.{TokenForm, MeantForm, Plain, Valued, Thread,
 use Rattle.script_tree.specs.Forms.{Add, Cas, Wait, Yield, Assert, Set, If, While, End, Else}
 use Rattle.script_tree.specs.Forms.{kind_word, is_plain, has_value, kind_since, tokens_of_form}
 use Rattle.script_tree.specs.Forms.{Means, IsFormOf, IsForm}
-use Rattle.script_parse.specs.Words.{kind_in}
+use Rattle.pct_ask.specs.NameLists.{kind_in}
 use Rattle.script_parse.specs.Machine.{expression_in}
 use Rattle.script_parse.specs.Saying.{lone_word, is_comma, parts_at, plain_form, lone_form}
 use Rattle.script_parse.specs.Saying.{value_parts, valued_form, declared_form, on_form, into_object}

@@ -30,7 +30,7 @@ use Rattle.script_tree.specs.Forms.{TokenForm, MeantForm, Plain, Valued, Thread,
 use Rattle.script_tree.specs.Forms.{Add, Cas, Wait, Yield, Assert, Set, If, While, End, Else}
 use Rattle.script_tree.specs.Forms.{kind_word, is_plain, kind_since, tokens_of_form, IsForm}
 use Rattle.script_tree.specs.Forms.{IsFormOf, Means}
-use Rattle.script_parse.specs.Words.{kind_in}
+use Rattle.pct_ask.specs.NameLists.{kind_in}
 use Rattle.script_parse.specs.Saying.{is_comma, parts_at, lone_form, form_in}
 use Rattle.script_parse.proofs.Choices.{some}
 use Rattle.script_parse.proofs.FirstValues.{value_is_read}

@@ -145,7 +145,8 @@ module _ (threads : List (List ℕ)) where
       }
 
   -- a line inside a thread that doesn't close it
-  pub inner_has : (part : ReadPart) (blocks : List Open) (block next : Open) (outer more : List Open)
+  pub inner_has : (part : ReadPart) (blocks : List Open) (block next : Open)
+      (outer more : List Open)
       (lines : List Line) (n m : ℕ) (line : Line) (h : HasRead threads part lines n)
       → part.open_blocks ≡ block ∷ outer → blocks ≡ next ∷ more
       → IsOpen part.version (with_threads threads part.names) blocks h.current (h.body ++ line ∷ [])

@@ -58,7 +58,8 @@ tells_thread_any place =
     tells_last place (faults.lacks_thread (faults.so_far_at place) (tokens_in place.line))
 
 -- tests of what was read and of the line's tokens tell so, too
-module _ (part : ReadPart) (place : Place) (s : Stands part (tokens_before place)) (tokens : List Token)
+module _ (part : ReadPart) (place : Place) (s : Stands part (tokens_before place))
+    (tokens : List Token)
     (here : tokens_in place.line ≡ tokens) where
   last_same : (test : SoFar → List Token → Bool)
       → test (faults.so_far_at place) (tokens_in place.line) ≡ test (so_far_in part) tokens

@@ -27,7 +27,8 @@ blank_tokens text b = nothing_is (tokens_of text) b
 pub blank_in : (text : List ℕ) → is_blank_line text ≡ true → tokens_in text ≡ []
 blank_in text b = rw (blank_tokens text b) refl
 
-no_blank_fault : (part : ReadPart) (last : Bool) → WholeAfter last part → blank_fault part last ≡ None
+no_blank_fault : (part : ReadPart) (last : Bool) → WholeAfter last part
+    → blank_fault part last ≡ None
 no_blank_fault part false whole = refl
 no_blank_fault part true whole = rw ((whole refl).closed, (whole refl).threads) refl
 

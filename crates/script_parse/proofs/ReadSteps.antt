@@ -34,7 +34,8 @@ pub reads_on : (find : Finder) (state next : Option ReadPart) (n : ℕ) (line : 
     ≡ Ok next → script_from find state n (line ∷ lines) ≡ script_from find next (n + 1) lines
 reads_on find state next n line lines e = rw e refl
 
-pub stops_at : (find : Finder) (state : Option ReadPart) (n : ℕ) (kind : ScriptFault) (line : List ℕ)
+pub stops_at : (find : Finder) (state : Option ReadPart) (n : ℕ) (kind : ScriptFault)
+    (line : List ℕ)
     (lines : List (List ℕ)) → line_taken state find n (is_empty lines) line
     ≡ Err kind → ◌≡◌ {A = Found} (script_from find state n (line ∷ lines)) (Err (n, kind))
 stops_at find state n kind line lines e = rw e refl

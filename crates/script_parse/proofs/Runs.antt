@@ -174,7 +174,8 @@ module _ (find : Finder) (part : ReadPart) (names : NameLists) (version : ℕ)
 
   mutual
     pub statement_runs : (s : Statement) (opening : Opening) (done : List Statement)
-        (outer : List Open) (rest : List Line) (last : ReadPart) (room : ℕ) → room ≡ 32 - length outer
+        (outer : List Open) (rest : List Line) (last : ReadPart) (room : ℕ)
+        → room ≡ 32 - length outer
         → statement_fits version names room s ≡ true
         → Runs find (at (inside opening (done ++ s ∷ []) outer)) rest last
         → Runs find (at (inside opening done outer)) (statement_lines names s ++ rest) last

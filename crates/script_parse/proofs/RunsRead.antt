@@ -29,7 +29,8 @@ form_step part find n last lines s text meant says free whole sound few =
           (tokens_of text) refl,
     ) refl
 
-pub form_after : (part : ReadPart) (find : Finder) (n : ℕ) (lines : List (List Token)) (text : List ℕ)
+pub form_after : (part : ReadPart) (find : Finder) (n : ℕ) (lines : List (List Token))
+    (text : List ℕ)
     (meant : MeantForm) → Stands part lines → Says part.version text meant → IsFree part find meant
     → Stands (with_form part find n meant) (lines ++ tokens_in text ∷ [])
 form_after part find n lines text meant s says free =

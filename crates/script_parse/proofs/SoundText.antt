@@ -72,7 +72,8 @@ record IsPlain (number : ℕ) (line : List ℕ) : Type 0 where
   few : number ≤ 4096
 
 bytes_plain : (number : ℕ) (line : List ℕ) (u l t : Bool) → is_utf8 line ≡ not u
-    → nat_lt 256 (length line) ≡ l → nat_lt 4096 number ≡ t → (r : AfterLine) (next : Option ReadPart)
+    → nat_lt 256 (length line) ≡ l → nat_lt 4096 number ≡ t
+    → (r : AfterLine) (next : Option ReadPart)
     → unless (cond u (Some fault.NotUtf8)
     (cond l (Some fault.LineTooLong) (cond t (Some fault.TooManyLines) None))) r ≡ Ok next
     → IsPlain number line
@@ -229,7 +230,8 @@ form_reads threads part before line tokens meant last r p e f g =
 -- ---- one line more
 
 below_reads : (threads : List (List ℕ)) (part : ReadPart) (last : Bool) (before : List (List ℕ))
-    (line : List ℕ) (next : Option ReadPart) (found : Option (List Token)) → Reads threads part before
+    (line : List ℕ) (next : Option ReadPart) (found : Option (List Token))
+    → Reads threads part before
     → IsPlain (length before + 1) line → tokens_of line ≡ found
     → some_part (tokens_taken part (finder threads) (length before + 1) last found) ≡ Ok next
     → ReadsBefore threads next (before ++ line ∷ [])
@@ -350,7 +352,8 @@ above_reads threads last before line next (Some (token ∷ tokens)) r p e w =
         let range = version_few (token ∷ tokens) version v in
         let here : tokens_in line ≡ token ∷ tokens = cut_tokens line (token ∷ tokens) e in
         let longer : length (before ++ line ∷ []) ≡ length before + 1 = length_push before line in
-        subst (λ (x : Option ReadPart). ReadsBefore threads x (before ++ line ∷ [])) (ok_is w) (record {
+        subst (λ (x : Option ReadPart). ReadsBefore threads x (before ++ line ∷ [])) (ok_is w)
+        (record {
           above = before;
           header = line;
           below = [];
@@ -371,7 +374,8 @@ above_reads threads last before line next (Some (token ∷ tokens)) r p e w =
 
 -- one more line is read
 pub line_reads : (threads : List (List ℕ)) (state : Option ReadPart) (last : Bool)
-    (before : List (List ℕ)) (line : List ℕ) (next : Option ReadPart) → ReadsBefore threads state before
+    (before : List (List ℕ)) (line : List ℕ) (next : Option ReadPart)
+    → ReadsBefore threads state before
     → line_taken state (finder threads) (length before + 1) last line ≡ Ok next
     → ReadsBefore threads next (before ++ line ∷ [])
 line_reads threads None last before line next r w =

@@ -44,7 +44,8 @@ record IsReached (lines : List (List ℕ)) (script : ScriptText) : Type 0 where
   reads : Reads (threads_begun lines) part lines
   stands : Stands part (map tokens_in lines)
 
-reached : (rest lines before : List (List ℕ)) (state : Option ReadPart) (n : ℕ) (script : ScriptText)
+reached : (rest lines before : List (List ℕ)) (state : Option ReadPart) (n : ℕ)
+    (script : ScriptText)
     → n ≡ length before + 1 → lines ≡ before ++ rest
     → ReadsBefore (threads_begun lines) state before → StandsBefore state before
     → script_from (finder (threads_begun lines)) state n rest ≡ Ok script → IsReached lines script
@@ -164,7 +165,8 @@ record IsEnded (part : ReadPart) : Type 0 where
   closed : part.open_blocks ≡ []
   some_thread : 1 ≤ length part.names.threads
 
-ended : (lines : List (List ℕ)) (part : ReadPart) → HasLast lines → Stands part (map tokens_in lines)
+ended : (lines : List (List ℕ)) (part : ReadPart) → HasLast lines
+    → Stands part (map tokens_in lines)
     → TellsFault (Ok (script_of part)) lines → IsEnded part
 ended lines part l s t =
     let behind : map tokens_in lines ≡ map tokens_in l.front ++ tokens_in l.last ∷ [] =

@@ -25,7 +25,7 @@ use Rattle.script_tree.specs.Lines.{version_of, begins_with, declared_name, name
 use Rattle.script_tree.specs.Lines.{opener}
 use Rattle.script_parse.specs.Part.{Open, ReadPart}
 use Rattle.script_parse.specs.Part as parts
-use Rattle.script_parse.specs.Words.{kind_in}
+use Rattle.pct_ask.specs.NameLists.{kind_in}
 use Rattle.script_parse.specs.Reading as reading
 use Rattle.script_parse.specs.Reading.{is_empty, is_if, is_in_if}
 use Rattle.script_parse.proofs.Choices.{unchosen}
@@ -343,7 +343,8 @@ turns_stands part next lines line block turned blocks e o t i m v n b c s = reco
 alike_refl : (blocks : List Open) → AreAlike blocks blocks
 alike_refl blocks = record { same_length = refl; same_ifs = λ k. refl }
 
-pub said_stands : (part : ReadPart) (statement : Option Statement) (lines : Lines) (line : List Token)
+pub said_stands : (part : ReadPart) (statement : Option Statement) (lines : Lines)
+    (line : List Token)
     → IsQuiet line → Stands part lines
     → Stands (reading.part_with_statement part statement) (lines ++ line ∷ [])
 said_stands part None lines line q s =

@@ -38,7 +38,8 @@ ok_is e = cc
 pub err_ok : {A E P : Type 0} {x : E} {y : A} → ◌≡◌ {A = Result A E} (Err x) (Ok y) → P
 err_ok e = absurd cc
 
-pub unless_ok : (o : Option ScriptFault) (r : AfterLine) (next : Option ReadPart) → unless o r ≡ Ok next
+pub unless_ok : (o : Option ScriptFault) (r : AfterLine) (next : Option ReadPart)
+    → unless o r ≡ Ok next
     → r ≡ Ok next
 unless_ok None r next e = e
 unless_ok (Some kind) r next e = err_ok e
@@ -137,7 +138,8 @@ above_next before line last next (Some []) s e r =
 above_next before line last next (Some (token ∷ tokens)) s e r =
     begun_next before line last next token tokens (version_in (token ∷ tokens)) s e refl r
 
-pub line_next : (state : Option ReadPart) (find : Finder) (n : ℕ) (last : Bool) (before : List (List ℕ))
+pub line_next : (state : Option ReadPart) (find : Finder) (n : ℕ) (last : Bool)
+    (before : List (List ℕ))
     (line : List ℕ) (next : Option ReadPart) → StandsBefore state before
     → line_taken state find n last line ≡ Ok next → StandsBefore next (before ++ line ∷ [])
 line_next None find n last before line next s r =
@@ -155,7 +157,8 @@ finder_of lines name = place_of name (threads_begun lines)
 abbrev pub at_place : List (List ℕ) → List ℕ → List (List ℕ) → Place
 at_place before line after = record { before = before; line = line; after = after }
 
-line_first : (state : Option ReadPart) (before : List (List ℕ)) (line : List ℕ) (after : List (List ℕ))
+line_first : (state : Option ReadPart) (before : List (List ℕ)) (line : List ℕ)
+    (after : List (List ℕ))
     → StandsBefore state before → are_blank (before ++ line ∷ after) ≡ false
     → IsFirst (fault_of (line_taken state (finder_of (before ++ line ∷ after))
     (length before + 1) (is_empty after) line)) (at_place before line after)
@@ -235,7 +238,8 @@ TellsFault (Err found) lines =
     × (found.0 ≡ length place.before + 1) × HasNoFaultBefore place × IsFirstKind place found.1
 
 step_tells : (lines before rest : List (List ℕ)) (line : List ℕ) (result : AfterLine)
-    (more : Option ReadPart → Found) → lines ≡ before ++ line ∷ rest → NoneBefore before (line ∷ rest)
+    (more : Option ReadPart → Found) → lines ≡ before ++ line ∷ rest
+    → NoneBefore before (line ∷ rest)
     → IsFirst (fault_of result) (at_place before line rest)
     → ((next : Option ReadPart) → result ≡ Ok next → NoneBefore (before ++ line ∷ []) rest
     → TellsFault (more next) lines) → TellsFault (then_read (length before + 1) result more)
@@ -250,7 +254,8 @@ step_tells lines before rest line (Err kind) more e none first on = (
 step_tells lines before rest line (Ok next) more e none first on =
     on next refl (none_push before rest line none first)
 
-pub all_tell : (rest : List (List ℕ)) (lines before : List (List ℕ)) (state : Option ReadPart) (n : ℕ)
+pub all_tell : (rest : List (List ℕ)) (lines before : List (List ℕ)) (state : Option ReadPart)
+    (n : ℕ)
     → n ≡ length before + 1 → lines ≡ before ++ rest → are_blank lines ≡ false
     → StandsBefore state before → NoneBefore before rest
     → TellsFault (script_from (finder_of lines) state n rest) lines

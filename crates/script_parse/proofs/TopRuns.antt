@@ -206,7 +206,8 @@ module _ (script : ScriptText) (are_names : AreNames script.names) (find : Finde
   }
 
   -- what these lines and the rest declare is what the script has
-  pub record IsAbove (part : ReadPart) (before low : List (List Token)) (texts : List (List ℕ)) : Type
+  pub record IsAbove (part : ReadPart) (before low : List (List Token))
+      (texts : List (List ℕ)) : Type
       0 where
     pub version : part.version ≡ script.version
     pub stands : Stands part before
@@ -244,7 +245,8 @@ module _ (script : ScriptText) (are_names : AreNames script.names) (find : Finde
       (sym (h.stands.names kind)) ∙ sym
       (filter_map-append (declared_name kind) before (map tokens_in texts)) ∙ h.names kind
 
-  is_new : (part : ReadPart) (before low : List (List Token)) (text : List ℕ) (texts : List (List ℕ))
+  is_new : (part : ReadPart) (before low : List (List Token)) (text : List ℕ)
+      (texts : List (List ℕ))
       → IsAbove part before low (text ∷ texts)
       → (kind : NameKind) (name : List ℕ) (more : List Token)
       → tokens_in text ≡ Word (kind_word kind) ∷ Word name ∷ more → IsNew part kind name
@@ -308,7 +310,8 @@ module _ (script : ScriptText) (are_names : AreNames script.names) (find : Finde
   line_first a b xs ys e = (cc, cc)
 
   pub tops_run : (texts : List (List ℕ)) (n : ℕ) (part : ReadPart) (top rest : List Line)
-      (before low : List (List Token)) (last : ReadPart) → IsTop part → IsAbove part before low texts
+      (before low : List (List Token)) (last : ReadPart) → IsTop part
+      → IsAbove part before low texts
       → AreLines part.version n texts (top ++ rest) → All (λ line. declares line.1 ≡ true) top
       → list_all says_no_name rest ≡ true
       → Runs find top_part rest last → Runs find part (top ++ rest) last

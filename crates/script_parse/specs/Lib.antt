@@ -3,7 +3,6 @@ pub mod Cutting
 pub mod Machine
 pub mod Spellings
 pub mod Frames
-pub mod Words
 pub mod Saying
 pub mod SeenForms
 pub mod Part

@@ -228,7 +228,8 @@ form_taken part find number last tokens (Some form) =
     after_fault (form_fault part find last tokens form) (with_form part find number form)
 
 -- a line below the header, by its tokens
-abbrev pub tokens_taken : ReadPart → Finder → ℕ → Bool → Option (List Token) → Result ReadPart ScriptFault
+abbrev pub tokens_taken : ReadPart → Finder → ℕ → Bool → Option (List Token)
+    → Result ReadPart ScriptFault
 tokens_taken part find number last None = Err BadToken
 tokens_taken part find number last (Some []) = after_fault (blank_fault part last) part
 tokens_taken part find number last (Some (token ∷ tokens)) =
@@ -266,7 +267,8 @@ unless None next = next
 unless (Some kind) next = Err kind
 
 -- one more line; what was read is none above the header
-abbrev pub line_taken : Option ReadPart → Finder → ℕ → Bool → List ℕ → Result (Option ReadPart) ScriptFault
+abbrev pub line_taken : Option ReadPart → Finder → ℕ → Bool → List ℕ
+    → Result (Option ReadPart) ScriptFault
 line_taken part find number last line =
     unless (bytes_fault number line) (line_said part find number last (tokens_of line))
 

@@ -16,7 +16,7 @@ use Rattle.script_tree.specs.Forms.{MeantForm, Plain, Valued, Thread, On, Into, 
 use Rattle.script_tree.specs.Forms.{Wait, Yield, Assert, Set, If, While, End, Else, is_plain}
 use Rattle.script_tree.specs.Forms.{has_value, kind_since}
 use Rattle.script_parse.specs.Machine.{expression_in}
-use Rattle.script_parse.specs.Words.{kind_in}
+use Rattle.pct_ask.specs.NameLists.{kind_in}
 
 abbrev pub plain_form : ℕ → NameKind → List ℕ → Option MeantForm
 plain_form version kind name =

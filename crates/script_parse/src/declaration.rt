@@ -5,35 +5,12 @@ ghost use Rattle.std.specs.Option.{option_map};
 ghost use Rattle.script_tree.specs.Forms as language;
 ghost use Rattle.script_parse.specs.Seen.{all_seen};
 ghost use Rattle.script_parse.specs.SeenForms.{seen_form, seen_value_tokens};
-ghost use Rattle.script_parse.specs.Words.{kind_in};
 ghost use Rattle.script_parse.specs.Saying as saying;
 
 use crate::expression::says;
 use crate::form::Form;
 use crate::token::Token;
 use pct_ask::{NameKind, is_lawful_name};
-
-pub fn kind_of(word: &[u8]) -> Option<NameKind>
-    ensures { result ≡ kind_in word.now }
-{
-    if says(word, b"thread") {
-        Some(NameKind::Thread)
-    } else if says(word, b"var") {
-        Some(NameKind::Var)
-    } else if says(word, b"mutex") {
-        Some(NameKind::Mutex)
-    } else if says(word, b"cond") {
-        Some(NameKind::Cond)
-    } else if says(word, b"sem") {
-        Some(NameKind::Sem)
-    } else if says(word, b"barrier") {
-        Some(NameKind::Barrier)
-    } else if says(word, b"rwlock") {
-        Some(NameKind::RwLock)
-    } else {
-        None
-    }
-}
 
 /// Whether a kind is declared without a first value.
 fn is_plain(kind: NameKind) -> bool

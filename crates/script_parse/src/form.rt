@@ -9,7 +9,7 @@ ghost use Rattle.script_tree.specs.Forms.{Assert, If, While};
 ghost use Rattle.script_parse.specs.Machine.{expression_in};
 ghost use Rattle.script_parse.specs.Saying as saying;
 
-use crate::declaration::{declared_form, kind_of};
+use crate::declaration::declared_form;
 use crate::expression::{expression_of, says};
 use crate::spelling::Spelling;
 use crate::token::Token;
@@ -393,7 +393,7 @@ pub fn form_of<'a>(
     if let Some(verb) = IntoVerb::of(word) {
         return Ok(into_form(version, verb, operands));
     }
-    match kind_of(word) {
+    match NameKind::of(word) {
         None => other_form(alloc, version, word, operands),
         Some(kind) => Ok(declared_form(version, kind, operands)),
     }

@@ -41,6 +41,8 @@ fn verbs(rt: HostRuntime) {
     assert!(rt; matches!(OnVerb::of(b"start"), Some(OnVerb::Start)));
     assert!(rt; IntoVerb::of(b"start").is_none());
     assert!(rt; matches!(IntoVerb::of(b"tryrdlock"), Some(IntoVerb::TryRdLock)));
+    assert_eq!(rt; NameKind::of(b"rwlock"), Some(NameKind::RwLock));
+    assert_eq!(rt; NameKind::of(b"rdlock"), None);
     assert_eq!(rt; OnVerb::Start.row().since, 2);
     assert_eq!(rt; IntoVerb::TryDown.row().kind, NameKind::Sem);
 }

@@ -11,11 +11,11 @@ returns c =
     let long : length c.in_ok-words.words.items ≡ 2 =
     sym (c.len.ensures ∙ c.in_ok-words.words.ok.0) ∙ c.if-len-ne2.false in
     let same : with_words c.args.names.now (words_of c.args.line.now)
-    ≡ joined_by c.args.names.now c.index-2.result.now.now c.kind_of.result =
+    ≡ joined_by c.args.names.now c.index-2.result.now.now c.of.result =
     of_two c.args.names.now (words_of c.args.line.now) c.in_ok-words.words.items
     c.index.result.now c.index-2.result.now c.in_ok-words.ensures long c.index.ensures
     c.index-2.ensures
-    ∙ rw c.kind_of.ensures refl in
+    ∙ rw c.of.ensures refl in
     subst
     (λ (read : Option NameLists). IfOk c.join.result (λ done.
     (done ≡ true → read ≡ Some c.join.new.names) × (done ≡ false → read ≡ None)))
