@@ -3,6 +3,8 @@
 pub mod Positions
 -- each index is given at one step at most, by change points and by moments
 pub mod GivenOnce
+-- a thread that was lowered has a lower rank than each that wasn't
+pub mod LoweredBelow
 -- a list with a wrong place is no order, and each thread's place is one of the order's
 pub mod Orders
 -- a list of numbers below its length, none twice, is an order

@@ -6,8 +6,8 @@
 //! - The values are PCT's ranks of the whole schedule, stay distinct, and the order stays: a
 //!   lowered thread keeps its place below all that weren't lowered: `Ranks::new`: `first`,
 //!   `is_order`; `Ranks::of_order`, its clause, also in the memory of others (`IsFirstRanking`);
-//!   `Ranks::lower`: `order`, `values`, `distinct`, `by_points`, `by_moments`; `Ranks::value`;
-//!   `Ranks::greatest`: `value`, `bound`.
+//!   `Ranks::lower`: `order`, `values`, `distinct`, `by_points`, `by_moments` (`rank`,
+//!   `lowered-below`); `Ranks::value`; `Ranks::greatest`: `value`, `bound`.
 //! - `holder` gives the thread with a value, or says that none has it; `walk` the one with that
 //!   many above it: `Ranks::holder`: `some`, `none`; `Ranks::walk`: `at_place`, `only`.
 //! - A thread outranks others exactly where none of them has a greater value: `Ranks::outranks`:

@@ -143,7 +143,8 @@ module _ (schedule : List ℕ) (thread : ℕ) where
       let a = greatest-passes (passes_at (is_moment after step) moments) (length moments) some in
       let b = greatest-passes (passes_at (is_moment after (suc (length schedule))) moments)
       (length moments) (omega (arith, e)) in
-      let w = passes_at-both (is_moment after step) (is_moment after (suc (length schedule))) moments
+      let w = passes_at-both (is_moment after step) (is_moment after (suc (length schedule)))
+      moments
       (index_of_moment moments after step) a
       (ap (passes_at (is_moment after (suc (length schedule))) moments) e ∙ b) in
       let m = w.0 in

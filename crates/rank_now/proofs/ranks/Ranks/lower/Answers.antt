@@ -99,5 +99,6 @@ pub returns-clause-by_moments : goal.returns-clause-by_moments
 returns-clause-by_moments c = λ order moments schedule same is.
     let seen : c.self.inside.values.items ≡ c.args.self.now.values =
     ap (λ (r : Ranking). r.values) c.self.view_is in
-    ranks_by_moments-step order moments schedule c.args.thread c.self.inside.values.items c.args.value
+    ranks_by_moments-step order moments schedule c.args.thread c.self.inside.values.items
+    c.args.value
     (omega (arith, c.requires.positive)) is (seen ∙ same)
