@@ -38,10 +38,8 @@ fn over_file<R: Threads + Wait + Sync, H: Shelf, G: Gate>(
         (record { files = H.files shelf.old; failed = H.failed shelf.old })
         (record { files = H.files shelf.new; failed = H.failed shelf.new }) }
 {
-    match read_test(alloc, file, shelf) {
-        Err(refusal) => Err(refusal),
-        Ok(test) => job.output(rt, alloc, &test, shelf, gate),
-    }
+    let test = read_test(alloc, file, shelf)?;
+    job.output(rt, alloc, &test, shelf, gate)
 }
 
 /// What the settings ask for.

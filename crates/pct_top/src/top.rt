@@ -82,10 +82,8 @@ fn print_settings<R: Threads + Wait + Sync, H: Shelf, O: Sink, G: Gate>(
         (record { files = H.files shelf.old; failed = H.failed shelf.old })
         (record { files = H.files shelf.new; failed = H.failed shelf.new }) }
 {
-    match output_of(rt, alloc, settings, shelf, gate) {
-        Err(refusal) => Err(refusal),
-        Ok(output) => put_output(&output, out),
-    }
+    let output = output_of(rt, alloc, settings, shelf, gate)?;
+    put_output(&output, out)
 }
 
 /// What the words ask for, put on the output.

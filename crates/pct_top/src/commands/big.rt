@@ -112,8 +112,6 @@ pub fn big_output<R: Threads + Wait + Sync, G: Gate>(
     requires { pieces ≤ 100 }
     ensures { GivesPrinted (OfScript (layout (large_script pieces)) (OfBig pieces)) result }
 {
-    match large_test(alloc, pieces) {
-        Err(refusal) => Err(refusal),
-        Ok(test) => Ok(big_of(rt, alloc, &test, pieces, serve, gate)?),
-    }
+    let test = large_test(alloc, pieces)?;
+    Ok(big_of(rt, alloc, &test, pieces, serve, gate)?)
 }

@@ -194,9 +194,7 @@ impl CertifyJob {
             (H.failed shelf.new) }
         ensures files { H.files shelf.new ≡ H.files shelf.old }
     {
-        match read_directed(alloc, directive, test.script.names(), shelf) {
-            Err(refusal) => Err(refusal),
-            Ok(plan) => Ok(self.certificate_of(rt, alloc, test, &plan, gate)?),
-        }
+        let plan = read_directed(alloc, directive, test.script.names(), shelf)?;
+        Ok(self.certificate_of(rt, alloc, test, &plan, gate)?)
     }
 }

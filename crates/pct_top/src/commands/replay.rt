@@ -126,10 +126,8 @@ pub fn reply_to_file<R: Threads + Wait + Sync, H: Shelf, G: Gate>(
         (H.failed shelf.new) }
     ensures files { H.files shelf.new ≡ H.files shelf.old }
 {
-    match read_told(alloc, trace, test.script.names(), shelf) {
-        Err(refusal) => Err(refusal),
-        Ok(told) => Ok(reply_to(rt, alloc, test, &told, gate)?),
-    }
+    let told = read_told(alloc, trace, test.script.names(), shelf)?;
+    Ok(reply_to(rt, alloc, test, &told, gate)?)
 }
 
 /// The replay of the trace of a file over a script.

@@ -1,4 +1,5 @@
 use Rattle.std.proofs.Common.{Ok, Err, false, subst, ◌∙◌}
+use Rattle.std.proofs.lemmas.Result.{err_from_is_err_and}
 use Rattle.script_tree.specs.ScriptSeen.{plain_script}
 use Rattle.pct_outside.specs.Told.{ShelfTold}
 use Rattle.pct_top.specs.Plan.{asked}
@@ -13,8 +14,8 @@ use Rattle.pct_top.proofs.Comes.{file_gives, file_kept}
 use Rattle.pct_top.proofs.Shelves.{leaves_script, leaves_both}
 use Rattle.pct_top.proofs.dispatch.over_file.Goals as goal
 
-pub returns-in-Err-clause-comes : goal.returns-in-Err-clause-comes
-returns-in-Err-clause-comes g c =
+pub returns-in_err-test-clause-comes : goal.returns-in_err-test-clause-comes
+returns-in_err-test-clause-comes g c =
     let name = c.args.file.now in
     let settings = asked name c.args.job.now in
     let file = asked_file name c.args.job.now in
@@ -27,20 +28,22 @@ returns-in-Err-clause-comes g c =
       files = g.H.Shelf.files c.read_test.new.shelf;
       failed = g.H.Shelf.failed c.read_test.new.shelf;
     } in
-    comes_untested before.files (script_text settings) (OfCommand settings)
+    let refusal = c.in_err-test.field-0.0 in
+    let p = err_from_is_err_and c.from_residual.result c.from_residual.ensures.1 in
+    rw (p.1, p.2) (comes_untested before.files (script_text settings) (OfCommand settings)
     (ReadFailed (Ok settings) before after)
     (Misses (script_file settings) before.failed after.failed)
-    (script_missed settings before after) c.in-Err.refusal
+    (script_missed settings before after) refusal
     (file_gives settings name file text before.files before.failed after.failed
-    (Err c.in-Err.refusal) c.in-Err.ensures.test)
+    (Err refusal) c.in_err-test.ensures.test))
 
-pub returns-in-Ok-clause-comes : goal.returns-in-Ok-clause-comes
-returns-in-Ok-clause-comes g c =
+pub returns-clause-comes : goal.returns-clause-comes
+returns-clause-comes g c =
     let name = c.args.file.now in
     let settings = asked name c.args.job.now in
     let file = asked_file name c.args.job.now in
     let text = asked_text name c.args.job.now in
-    let test = c.in-Ok.test in
+    let test = c.in_ok-test.test in
     let script = plain_script test.script in
     let before : ShelfTold = record {
       files = g.H.Shelf.files c.args.shelf.now;
@@ -53,17 +56,17 @@ returns-in-Ok-clause-comes g c =
     } in
     let missed : Type 0 = MissesSecond settings script middle after.failed in
     let spells = file_gives settings name file text before.files before.failed middle (Ok test)
-    c.in-Ok.ensures.test in
+    c.in_ok-test.ensures.test in
     comes_tested before.files (script_text settings) (OfCommand settings)
     (ReadFailed (Ok settings) before after) test spells missed
     (second_missed settings before after middle script spells
-    (file_kept settings name file false before.failed middle c.in-Ok.ensures.keeps))
+    (file_kept settings name file false before.failed middle c.in_ok-test.ensures.keeps))
     c.output.result
     (subst (λ told. Comes (λ files. OfCommand settings files script test.deal) told missed
-    c.output.result) c.in-Ok.ensures.files (c.output.ensures.comes name))
+    c.output.result) c.in_ok-test.ensures.files (c.output.ensures.comes name))
 
-pub returns-in-Err-clause-shelf : goal.returns-in-Err-clause-shelf
-returns-in-Err-clause-shelf g c =
+pub returns-in_err-test-clause-shelf : goal.returns-in_err-test-clause-shelf
+returns-in_err-test-clause-shelf g c =
     let name = c.args.file.now in
     let settings = asked name c.args.job.now in
     let file = asked_file name c.args.job.now in
@@ -76,17 +79,20 @@ returns-in-Err-clause-shelf g c =
       files = g.H.Shelf.files c.read_test.new.shelf;
       failed = g.H.Shelf.failed c.read_test.new.shelf;
     } in
-    leaves_script settings (is_read c.in-Err.refusal) before after c.in-Err.ensures.files
-    (file_kept settings name file (is_read c.in-Err.refusal) before.failed after.failed
-    c.in-Err.ensures.keeps)
+    let refusal = c.in_err-test.field-0.0 in
+    let p = err_from_is_err_and c.from_residual.result c.from_residual.ensures.1 in
+    rw (p.1, p.2) (leaves_script settings (is_read refusal) before after
+    c.in_err-test.ensures.files
+    (file_kept settings name file (is_read refusal) before.failed after.failed
+    c.in_err-test.ensures.keeps))
 
-pub returns-in-Ok-clause-shelf : goal.returns-in-Ok-clause-shelf
-returns-in-Ok-clause-shelf g c =
+pub returns-clause-shelf : goal.returns-clause-shelf
+returns-clause-shelf g c =
     let name = c.args.file.now in
     let settings = asked name c.args.job.now in
     let file = asked_file name c.args.job.now in
     let text = asked_text name c.args.job.now in
-    let test = c.in-Ok.test in
+    let test = c.in_ok-test.test in
     let script = plain_script test.script in
     let before : ShelfTold = record {
       files = g.H.Shelf.files c.args.shelf.now;
@@ -98,8 +104,8 @@ returns-in-Ok-clause-shelf g c =
       failed = g.H.Shelf.failed c.output.new.shelf;
     } in
     leaves_both settings (is_missed c.output.result) before after
-    (c.output.ensures.files ∙ c.in-Ok.ensures.files) middle script
+    (c.output.ensures.files ∙ c.in_ok-test.ensures.files) middle script
     (file_gives settings name file text before.files before.failed middle (Ok test)
-    c.in-Ok.ensures.test)
-    (file_kept settings name file false before.failed middle c.in-Ok.ensures.keeps)
+    c.in_ok-test.ensures.test)
+    (file_kept settings name file false before.failed middle c.in_ok-test.ensures.keeps)
     (c.output.ensures.keeps name)

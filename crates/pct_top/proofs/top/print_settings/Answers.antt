@@ -1,4 +1,5 @@
 use Rattle.std.proofs.Common.{Bool, Ok, Err, Some, sym, subst}
+use Rattle.std.proofs.lemmas.Result.{err_from_is_err_and}
 use Rattle.pct_outside.specs.Told.{ShelfTold, StreamTold}
 use Rattle.pct_top.specs.Output.{OfTaken}
 use Rattle.pct_top.specs.CommandOutput.{printed_of}
@@ -8,8 +9,8 @@ use Rattle.pct_top.proofs.Shelves.{put_is_read}
 use Rattle.pct_top.proofs.Calls.{answers_refused, answers_put}
 use Rattle.pct_top.proofs.top.print_settings.Goals as goal
 
-pub returns-in-Err-clause-answers : goal.returns-in-Err-clause-answers
-returns-in-Err-clause-answers g c =
+pub returns-in_err-output-clause-answers : goal.returns-in_err-output-clause-answers
+returns-in_err-output-clause-answers g c =
     let shelf : ShelfTold = record {
       files = g.H.Shelf.files c.args.shelf.now;
       failed = g.H.Shelf.failed c.args.shelf.now;
@@ -23,11 +24,12 @@ returns-in-Err-clause-answers g c =
       faults = g.O.Sink.faults c.args.out.now;
       shorts = g.O.Sink.shorts c.args.out.now;
     } in
-    answers_refused (Ok c.args.settings) shelf shelf' out c.in-Err.refusal
-    c.in-Err.ensures.comes
+    let p = err_from_is_err_and c.from_residual.result c.from_residual.ensures.1 in
+    rw (p.1, p.2) (answers_refused (Ok c.args.settings) shelf shelf' out
+    c.in_err-output.field-0.0 c.in_err-output.ensures.comes)
 
-pub returns-in-Ok-clause-answers : goal.returns-in-Ok-clause-answers
-returns-in-Ok-clause-answers g c =
+pub returns-clause-answers : goal.returns-clause-answers
+returns-clause-answers g c =
     let shelf : ShelfTold = record {
       files = g.H.Shelf.files c.args.shelf.now;
       failed = g.H.Shelf.failed c.args.shelf.now;
@@ -46,11 +48,11 @@ returns-in-Ok-clause-answers g c =
       faults = g.O.Sink.faults c.put_output.new.out;
       shorts = g.O.Sink.shorts c.put_output.new.out;
     } in
-    answers_put (Ok c.args.settings) shelf shelf' out out' c.in-Ok.output c.put_output.result
-    c.in-Ok.ensures.comes c.put_output.ensures
+    answers_put (Ok c.args.settings) shelf shelf' out out' c.in_ok-output.output c.put_output.result
+    c.in_ok-output.ensures.comes c.put_output.ensures
 
-pub returns-in-Err-clause-unread : goal.returns-in-Err-clause-unread
-returns-in-Err-clause-unread g c = λ none files.
+pub returns-in_err-output-clause-unread : goal.returns-in_err-output-clause-unread
+returns-in_err-output-clause-unread g c = λ none files.
     let shelf : ShelfTold = record {
       files = Some files;
       failed = g.H.Shelf.failed c.args.shelf.now;
@@ -64,13 +66,15 @@ returns-in-Err-clause-unread g c = λ none files.
       faults = g.O.Sink.faults c.args.out.now;
       shorts = g.O.Sink.shorts c.args.out.now;
     } in
-    answers_refused (Ok c.args.settings) shelf shelf' out c.in-Err.refusal
+    let p = err_from_is_err_and c.from_residual.result c.from_residual.ensures.1 in
+    rw (p.1, p.2) (answers_refused (Ok c.args.settings) shelf shelf' out
+    c.in_err-output.field-0.0
     (told_comes (OfTaken (Ok c.args.settings)) files
     (ReadFailed (Ok c.args.settings) shelf shelf')
-    (Err c.in-Err.refusal) (c.in-Err.ensures.unread none files))
+    (Err c.in_err-output.field-0.0) (c.in_err-output.ensures.unread none files)))
 
-pub returns-in-Ok-clause-unread : goal.returns-in-Ok-clause-unread
-returns-in-Ok-clause-unread g c = λ none files.
+pub returns-clause-unread : goal.returns-clause-unread
+returns-clause-unread g c = λ none files.
     let shelf : ShelfTold = record {
       files = Some files;
       failed = g.H.Shelf.failed c.args.shelf.now;
@@ -89,13 +93,18 @@ returns-in-Ok-clause-unread g c = λ none files.
       faults = g.O.Sink.faults c.put_output.new.out;
       shorts = g.O.Sink.shorts c.put_output.new.out;
     } in
-    answers_put (Ok c.args.settings) shelf shelf' out out' c.in-Ok.output c.put_output.result
+    answers_put (Ok c.args.settings) shelf shelf' out out' c.in_ok-output.output c.put_output.result
     (told_comes (OfTaken (Ok c.args.settings)) files
     (ReadFailed (Ok c.args.settings) shelf shelf')
-    (Ok c.in-Ok.output) (c.in-Ok.ensures.unread none files)) c.put_output.ensures
+    (Ok c.in_ok-output.output) (c.in_ok-output.ensures.unread none files)) c.put_output.ensures
 
-pub returns-in-Ok-clause-shelf : goal.returns-in-Ok-clause-shelf
-returns-in-Ok-clause-shelf g c =
+pub returns-in_err-output-clause-shelf : goal.returns-in_err-output-clause-shelf
+returns-in_err-output-clause-shelf g c =
+    let p = err_from_is_err_and c.from_residual.result c.from_residual.ensures.1 in
+    rw (p.1, p.2) c.in_err-output.ensures.shelf
+
+pub returns-clause-shelf : goal.returns-clause-shelf
+returns-clause-shelf g c =
     let shelf : ShelfTold = record {
       files = g.H.Shelf.files c.args.shelf.now;
       failed = g.H.Shelf.failed c.args.shelf.now;
@@ -115,6 +124,6 @@ returns-in-Ok-clause-shelf g c =
       shorts = g.O.Sink.shorts c.put_output.new.out;
     } in
     subst (λ (unread : Bool). LeavesShelf (Ok c.args.settings) unread shelf shelf')
-    (sym (put_is_read (printed_of c.in-Ok.output) out out' c.put_output.result
+    (sym (put_is_read (printed_of c.in_ok-output.output) out out' c.put_output.result
     c.put_output.ensures))
-    c.in-Ok.ensures.shelf
+    c.in_ok-output.ensures.shelf

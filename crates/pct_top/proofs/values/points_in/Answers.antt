@@ -34,7 +34,12 @@ pub returns : goal.returns
 returns c =
     let items = c.in_ok-items.items.items in
     let few : length (seen items) ≤ 7 =
-    omega (arith, length-map items (λ word. word.now), c.len.ensures, c.if-len-gt-MAX_POINTS.false) in
+    omega (
+      arith,
+      length-map items (λ word. word.now),
+      c.len.ensures,
+      c.if-len-gt-MAX_POINTS.false,
+    ) in
     let pieces : seen items ≡ take 8 (items_of c.args.value.now) =
     c.in_ok-items.ensures ∙ ap (λ bytes. take 8 (items_of bytes)) c.as_bytes.ensures.value in
     let P : Option (List ℕ) → Type 0 = λ told. IfOk c.step_counts.result (λ points. points ≡ told)

@@ -48,7 +48,8 @@ returns g c =
     let Are : ℕ → ℕ → Type 0 = λ depth limit. map Some rows
     ≡ rows_of (setup_of script test.deal depth steps limit) 1 20 in (
       steps,
-      subst (λ l. DrawsFrom script test.deal l None steps) c.new-limit.ensures c.in_ok-steps.ensures,
+      subst (λ l. DrawsFrom script test.deal l None steps) c.new-limit.ensures
+          c.in_ok-steps.ensures,
       (
         rows,
         groups,

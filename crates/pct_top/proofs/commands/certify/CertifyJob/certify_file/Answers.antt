@@ -1,4 +1,5 @@
 use Rattle.std.proofs.Common.{Some, Err, subst}
+use Rattle.std.proofs.lemmas.Result.{err_from_is_err_and}
 use Rattle.pct_ask.specs.NameLists.{NameLists}
 use Rattle.script_tree.specs.ScriptSeen.{plain_script}
 use Rattle.pct_top.specs.Files.{Misses, GivesDirective, HasDirective}
@@ -7,8 +8,8 @@ use Rattle.pct_top.specs.commands.Certify.{PrintsCertificate}
 use Rattle.pct_top.proofs.Comes.{directive_refused, directive_shown}
 use Rattle.pct_top.proofs.commands.certify.CertifyJob.certify_file.Goals as goal
 
-pub returns-in-Err-clause-comes : goal.returns-in-Err-clause-comes
-returns-in-Err-clause-comes g c =
+pub returns-in_err-plan-clause-comes : goal.returns-in_err-plan-clause-comes
+returns-in_err-plan-clause-comes g c =
     let job = c.args.self.now in
     let test = c.args.test.now in
     let script = plain_script test.script in
@@ -16,15 +17,16 @@ returns-in-Err-clause-comes g c =
     let file = c.args.directive.now in
     let failed = g.H.Shelf.failed c.args.shelf.now in
     let missed : Type 0 = Misses (Some file) failed (g.H.Shelf.failed c.read_directed.new.shelf) in
+    let refusal = c.in_err-plan.field-0.0 in
     let G : NameLists → Type 0 = λ names.
-    GivesDirective told file names missed (Err c.in-Err.refusal) in
-    directive_refused told file script.names
-    (PrintsCertificate script test.deal job.steps job.limit) missed c.in-Err.refusal
-    (subst G c.names.ensures c.in-Err.ensures.told)
+    GivesDirective told file names missed (Err refusal) in
+    let p = err_from_is_err_and c.from_residual.result c.from_residual.ensures.1 in
+    rw (p.1, p.2) (directive_refused told file script.names
+    (PrintsCertificate script test.deal job.steps job.limit) missed refusal
+    (subst G c.names.ensures c.in_err-plan.ensures.told))
 
-pub returns-in_ok-certificate_of-in-Ok-clause-comes :
-    goal.returns-in_ok-certificate_of-in-Ok-clause-comes
-returns-in_ok-certificate_of-in-Ok-clause-comes g c =
+pub returns-clause-comes : goal.returns-clause-comes
+returns-clause-comes g c =
     let job = c.args.self.now in
     let test = c.args.test.now in
     let script = plain_script test.script in
@@ -32,9 +34,9 @@ returns-in_ok-certificate_of-in-Ok-clause-comes g c =
     let file = c.args.directive.now in
     let failed = g.H.Shelf.failed c.args.shelf.now in
     let missed : Type 0 = Misses (Some file) failed (g.H.Shelf.failed c.read_directed.new.shelf) in
-    let plan = c.in-Ok.plan in
+    let plan = c.in_ok-plan.plan in
     let H : NameLists → Type 0 = λ names. HasDirective told file names plan in
     directive_shown told file script.names
     (PrintsCertificate script test.deal job.steps job.limit) missed plan
-    (printed_of c.in_ok-certificate_of-in-Ok.field-0) (subst H c.names.ensures c.in-Ok.ensures.told)
-    c.in_ok-certificate_of-in-Ok.ensures
+    (printed_of c.in_ok-certificate_of.field-0) (subst H c.names.ensures c.in_ok-plan.ensures.told)
+    c.in_ok-certificate_of.ensures
