@@ -36,8 +36,8 @@ impl Model for Kit {
 
 impl Kit {
     /// A test of the deal's threads, by an order of them, the highest first, and change points,
-    /// that stops after `limit` steps. The seat serves all its threads, each of which owes its first
-    /// post.
+    /// that stops after `limit` steps. The seat serves all its threads, each of which owes its
+    /// first post.
     pub fn open(
         alloc: Global,
         deal: Deal,

@@ -1,5 +1,5 @@
-//! A small test in Rattle, run by boxed bodies: two threads count up, and a third finds that a count
-//! was lost.
+//! A small test in Rattle, run by boxed bodies: two threads count up, and a third finds that a
+//! count was lost.
 //!
 //! What is proved, by call and clause; in parentheses the definitions:
 //!

@@ -31,7 +31,8 @@ module _ (P : ℕ × ℕ → Type 0) where
       by (λ found. above (place.0 + 1) k line places rise.1 found) (place.0 == k) refl where
         by : (line_of_thread k places ≡ Some line → place.0 + 1 ≤ k) → (same : Bool)
             → (place.0 == k) ≡ same → least ≤ k
-        by others true e = let here = (unsigned_Decides place.0 k).0 e in omega (arith, here, rise.0)
+        by others true e = let here = (unsigned_Decides place.0 k).0 e in
+            omega (arith, here, rise.0)
         by others false e = let later = others (rw e at is) in omega (arith, later, rise.0)
 
   all-from : (least : ℕ) (places : List (ℕ × ℕ)) → RiseFrom least (map (λ p. p.0) places)

@@ -39,8 +39,8 @@ abbrev pub own_counts : List ℕ → List ℕ → List ℕ
 own_counts order schedule =
     map (λ thread. count_by (λ taker. taker == thread) schedule) (threads_of order)
 
--- it stands for a schedule: the values are the ranks after it, by its moments, and each thread's own
--- steps are counted
+-- it stands for a schedule: the values are the ranks after it, by its moments, and each thread's
+-- own steps are counted
 pub record MomentsStand (kept : MomentsKept) (schedule : List ℕ) : Type 0 where
   pub values : kept.values ≡ ranks_by_moments kept.order kept.moments schedule
   pub own : kept.own ≡ own_counts kept.order schedule

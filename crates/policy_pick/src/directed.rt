@@ -138,7 +138,8 @@ impl Policy for DirectedPolicy {
 /// is.
 fn index_of_moment(moments: &[Moment], thread: u32, number: u32) -> u32
     requires { length moments.now ≤ MAX_POINTS }
-    ensures { result ≡ last_position (λ moment. moment.thread == thread && moment.number == number) moments.now }
+    ensures { result ≡ last_position
+        (λ moment. moment.thread == thread && moment.number == number) moments.now }
 {
     let mut index = 0;
     for (place, moment) in moments.iter().enumerate() {

@@ -1,5 +1,6 @@
 -- Books that are set for the run at a place, and new runners of its threads.
-use Rattle.std.proofs.Common.{◌≡◌, ℕ, ℤ, ◌+◌, ◌<◌, List, [], ◌∷◌, ◌++◌, Option, Some, Result, Ok, Err}
+use Rattle.std.proofs.Common.{◌≡◌, ℕ, ℤ, ◌+◌, ◌<◌, List, [], ◌∷◌, ◌++◌, Option, Some, Result, Ok}
+use Rattle.std.proofs.Common.{Err}
 use Rattle.std.proofs.Common.{length, map, take, refl, sym, ap, subst, ◌∙◌}
 use Rattle.std.proofs.Math.Path.{transport}
 use Rattle.std.specs.Prelude.{IfOk}

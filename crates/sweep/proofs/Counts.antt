@@ -125,7 +125,8 @@ group-from : (done rest : List Row) (group : Group) → SumsUp done group
 group-from done [] group is =
     (group, subst (λ rows. SumsUp rows group) (sym (append-nil done)) is, refl)
 group-from done (r ∷ rest) group is =
-    let more = group-from (done ++ r ∷ []) rest (with_row group r) (SumsUp-more done group r is) in (
+    let sums = SumsUp-more done group r is in
+    let more = group-from (done ++ r ∷ []) rest (with_row group r) sums in (
       more.0,
       subst (λ rows. SumsUp rows more.0) (append_assoc done (r ∷ []) rest) more.1,
       more.2,

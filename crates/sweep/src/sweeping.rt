@@ -56,7 +56,8 @@ fn next_size(size: u32, most: u32, is_longer: bool) -> u32
 /// by the caller. A run has at most `limit` steps. Where a point isn't below the length of a run,
 /// all greater points repeat the run, which is made once and counted for each. Threads are started
 /// once for a batch of choices, whose runs may overlap in time; where one couldn't be started, or
-/// there was no memory for threads, the caller serves the rest. The gate is passed before each post.
+/// there was no memory for threads, the caller serves the rest. The gate is passed before each
+/// post.
 pub fn sweep<R: Threads + Wait + Sync, G: Gate>(
     rt: &R,
     alloc: Global,

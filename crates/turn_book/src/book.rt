@@ -1,5 +1,6 @@
 ghost use Rattle.std.specs.Prelude.{◌≡◌, ◌≢◌, ◌<◌, ◌≤◌, ◌↔◌, ℕ, ℤ, [], ◌++◌, List, length, Some};
-ghost use Rattle.std.specs.Prelude.{None, IfOk, IfSome, IsSome, IsNone, is_some, true, vec_capacity};
+ghost use Rattle.std.specs.Prelude.{None, IfOk, IfSome, IsSome, IsNone, is_some, true};
+ghost use Rattle.std.specs.Prelude.{vec_capacity};
 ghost use Rattle.pct_ask.specs.declared.ask.Post.{Post};
 ghost use Rattle.pct_ask.specs.declared.event.Event.{Event};
 ghost use Rattle.pct_ask.specs.declared.event.Standing.{Standing};

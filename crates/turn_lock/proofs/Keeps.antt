@@ -442,7 +442,8 @@ closed made id v words homes last live idle all f is =
       own = λ t below. tied.own t (all t (omega arith));
     }
 
-pub begins : (about : Slot) (words : List ℕ) (items : List Slot) (b : BookState) (board : NotedWords)
+pub begins : (about : Slot) (words : List ℕ) (items : List Slot) (b : BookState)
+    (board : NotedWords)
     → about ≡ record { book = b; board = board } → words ≡ replicate (b.deal.threads + 1) 0
     → items ≡ record { book = b; board = board } ∷ [] → IsLawful b → NotesBelow b.deal.threads board
     → KeepsRule about.book (opening words items (first_view about.book))

@@ -21,7 +21,8 @@ use Rattle.turn_lock.specs.declared.work.Work.{Work}
 use Rattle.turn_lock.proofs.laws.Growth.{grew-turn}
 use Rattle.turn_lock.proofs.laws.Standings.{away, away-owes}
 
-pub noted-is : (threads : ℕ) (board : NotedWords) (t : ℕ) (noted : Option ℕ) → noted ≡ word_noted board t
+pub noted-is : (threads : ℕ) (board : NotedWords) (t : ℕ) (noted : Option ℕ)
+    → noted ≡ word_noted board t
     → NotesBelow threads board → IfSome noted
     (λ word. (word_noted board t ≡ Some word) × (word < threads))
 noted-is threads board t None is notes = tt

@@ -302,7 +302,8 @@ pub found-run : (deal : Deal) (bodies : List Pending) (order points : List ℕ) 
     ≡ Some (events, verdict)
 found-run deal bodies order points limit events verdict ordered threads is =
     let moments = moments_of (schedule_of events) points in
-    same-from deal bodies (rank order points) (rank_by_moments order moments) limit [] events verdict
+    same-from deal bodies (rank order points) (rank_by_moments order moments) limit [] events
+    verdict
     (λ taken more t cut a b p q.
     rank_by-alike (index_of_point points) (index_of_moment moments taken) (length points)
     (length moments) order taken ordered

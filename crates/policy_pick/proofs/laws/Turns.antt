@@ -205,7 +205,8 @@ choice-step (ByPoints order points) schedule thread opened earlier later speaks 
     says) was away
 choice-step (ByMoments order moments) schedule thread opened earlier later speaks opens says was
     away =
-    let long = length-map-range_with_len (rank_by_moments order moments schedule) 0 (length order) in
+    let long = length-map-range_with_len (rank_by_moments order moments schedule) 0
+    (length order) in
     rank-step (ranks_by_moments order moments schedule) thread opened earlier later opens
     (lower-by (ranks_by_moments order moments schedule) thread opened (length earlier)
     (long ∙ sym speaks) says) was away

@@ -34,7 +34,8 @@ returns-clause-directed g c =
 pub returns-clause-played : goal.returns-clause-played
 returns-clause-played g c =
     let start = map g.B.Body.pending c.args.bodies.items in
-    let L : ℕ → Type 0 = λ most. IsPlayed (moments_plan c.in_ok-policy.policy) c.args.deal start most
+    let L : ℕ → Type 0 = λ most. IsPlayed (moments_plan c.in_ok-policy.policy) c.args.deal start
+    most
     c.in_ok-played.played.events c.in_ok-played.played.outcome in
     told-played (moments_plan c.in_ok-policy.policy)
     (ByMoments c.args.priorities.now.order.now c.args.priorities.now.moments.now)

@@ -118,5 +118,6 @@ returns-else-index-gt0-clause-same c = λ kept schedule stood.
     c.index.ensures c.deref.ensures.value c.index_of_moment-index.ensures in
     let same = ranks_by_moments-same f.ranks.order f.moments.items schedule c.args.thread
     (omega (arith, c.if-index-gt0.false, step.given)) in
-    let K : MomentsKept → Type 0 = λ kept. KeepsChoices (moments_plan kept) schedule c.args.thread in
+    let K : MomentsKept → Type 0 = λ kept.
+    KeepsChoices (moments_plan kept) schedule c.args.thread in
     subst K c.self.view_is (λ chances. ap (λ rs. choice_by_rank rs chances) (sym same))

@@ -35,7 +35,8 @@ returns-clause-plan c =
     let sweep = next.sweep.now in
     let listed = listed-choice sweep.script.deal.now.threads sweep.steps sweep.points
     c.index-at.result.now c.in_ok-choice.choice c.in_ok-choice.ensures in
-    next-planned next c.args.place c.index-at.result.now c.in_ok-choice.choice c.of_priorities.result
+    next-planned next c.args.place c.index-at.result.now c.in_ok-choice.choice
+    c.of_priorities.result
     _ _ c.requires.place c.index-at.ensures c.in_ok-choice.ensures
     c.as_slice-order.ensures c.as_slice-points.ensures
     (omega (arith, ap length c.as_slice-order.ensures, listed.0.whole)) c.of_priorities.ensures.plan

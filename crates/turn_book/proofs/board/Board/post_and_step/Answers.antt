@@ -16,7 +16,8 @@ use Rattle.policy_pick.specs.Choice.{chance_of, OpensOnly}
 use Rattle.turn_book.specs.Chances.{chance, chances}
 use Rattle.turn_book.specs.Board.{BoardState, PostsAndSteps, next_posts_of, concerns}
 use Rattle.turn_book.specs.Board.{joins_ask, ask_of_post, chances_on, posted_on, answer_of}
-use Rattle.turn_book.specs.Board.{verdict_of, AreKnownChances, AreWaiters, IsBoard, IsFresh, WereChances}
+use Rattle.turn_book.specs.Board.{verdict_of, AreKnownChances, AreWaiters, IsBoard, IsFresh}
+use Rattle.turn_book.specs.Board.{WereChances}
 use Rattle.turn_book.proofs.Boards.{chances-before, front-taken, others-kept, range-set}
 use Rattle.turn_book.proofs.Boards.{targets-away}
 use Rattle.turn_book.proofs.Lockers.{touched-within}

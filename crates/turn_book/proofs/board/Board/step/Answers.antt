@@ -16,7 +16,8 @@ use Rattle.turn_book.proofs.Lockers.{touched-within}
 use Rattle.turn_book.proofs.Boards.{board-set, front-taken}
 use Rattle.policy_pick.specs.declared.chance.Chance.{Chance}
 use Rattle.policy_pick.specs.Choice.{OpensOnly}
-use Rattle.turn_book.specs.Board.{AreLockers, AreKnownChances, AreWaiters, BoardState, IsBoard, IsFresh}
+use Rattle.turn_book.specs.Board.{AreLockers, AreKnownChances, AreWaiters, BoardState, IsBoard}
+use Rattle.turn_book.specs.Board.{IsFresh}
 use Rattle.turn_book.specs.Board.{WereChances, chances_on}
 use Rattle.pct_ask.specs.declared.ask.Ask.{Ask}
 use Rattle.sync_store.specs.Store.{sizes_of}

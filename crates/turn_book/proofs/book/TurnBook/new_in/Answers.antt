@@ -45,6 +45,7 @@ returns-clause-made g c =
 
 pub returns-clause-lawful : goal.returns-clause-lawful
 returns-clause-lawful g c =
-    lawful-told c.args.deal c.steps-limit.result (g.P.Policy.plan c.args.policy) c.pick-next.new.self
+    lawful-told c.args.deal c.steps-limit.result (g.P.Policy.plan c.args.policy)
+    c.pick-next.new.self
     c.in_ok-trace.trace.items c.pick-next.result None (vec_capacity c.in_ok-trace.trace)
     (invariant_of-result g c).0
