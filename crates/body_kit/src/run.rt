@@ -12,7 +12,7 @@ use crate::boxed::as_bodies;
 use crate::counts::pct_of;
 use crate::error::KitError;
 use pct_ask::{Body, Deal};
-use pct_outside::Gate;
+use pct_gate::Gate;
 use std::alloc::Global;
 use std::sync::Wait;
 use std::thread::Threads;

@@ -7,7 +7,7 @@ ghost use Rattle.pct_ask.specs.declared.limits.TheConstants.{MAX_DEPTH, MAX_RUNS
 
 use crate::common::Campaign;
 use pct_ask::{Deal, Depth, Limit, RowList};
-use pct_outside::Gate;
+use pct_gate::Gate;
 use script_code::Code;
 use script_run::{ReadyScript, run_batches};
 use std::alloc::{AllocError as NoMemory, Global};

@@ -12,7 +12,7 @@ use crate::reducing::reduce;
 use crate::short::Short;
 use choices::moments_of;
 use pct_ask::{Deal, Limit, Verdict};
-use pct_outside::Gate;
+use pct_gate::Gate;
 use policy_pick::{MomentList, Priorities};
 use script_code::Code;
 use script_run::ReadyScript;

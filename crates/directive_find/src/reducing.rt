@@ -8,7 +8,7 @@ ghost use Rattle.directive_find.specs.Reduced.{LeadsTo, Leaves, IsReduced};
 use crate::short::Short;
 use choices::without_moment;
 use pct_ask::{Limit, Verdict};
-use pct_outside::Gate;
+use pct_gate::Gate;
 use policy_pick::{DirectedPriorities, Priorities};
 use script_run::ReadyScript;
 use std::alloc::{AllocError as NoMemory, Global};

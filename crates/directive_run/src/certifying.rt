@@ -12,7 +12,7 @@ use crate::claim::Claim;
 use choices::{bound_of, order_count};
 use directive::Directive;
 use pct_ask::{Deal, Limit, MAX_CERTIFIED_THREADS};
-use pct_outside::Gate;
+use pct_gate::Gate;
 use script_code::Code;
 use script_run::{ReadyScript, run_batches};
 use std::alloc::{AllocError as NoMemory, Global};

@@ -12,7 +12,7 @@ use crate::answers::Exposed;
 use choices::points_of;
 use directive::Directive;
 use pct_ask::{Deal, Limit};
-use pct_outside::Gate;
+use pct_gate::Gate;
 use policy_pick::DirectedPriorities;
 use script_code::Code;
 use script_run::ReadyScript;

@@ -4,7 +4,7 @@ ghost use Rattle.kit_example.specs.Queue.{worker_pending, taker, putter};
 
 use body_kit::{BoxedRun, KitError, run_boxed};
 use pct_ask::{Body, Deal, Sequence};
-use pct_outside::OpenGate;
+use pct_gate::OpenGate;
 use priority_draw::Words;
 use std::alloc::{AllocError as NoMemory, Global};
 use std::sync::Wait;

@@ -1,5 +1,4 @@
-pub mod GateState
-pub mod Meeting
+pub use Rattle.pct_gate.specs.GateState
 pub mod Counter
 pub mod Piece
 pub mod Reading

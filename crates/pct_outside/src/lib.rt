@@ -20,26 +20,23 @@
 //! - At first nothing was put, no read has failed, and all counts are 0: `MemoryShelf::new`;
 //!   `SureShelf::new`; `MemorySink::new`; `SureSink::new`; `HostShelf::new`; `HostSink::output`;
 //!   `HostSink::errors`.
-//! - Gates: `PairGate::met` reports no meeting where threads look no times, by what `PairGate::new`
-//!   was given; whom a gate holds no clause says, that of `OpenGate::new` neither.
+//!
+//! The gates are those of `pct_gate`, which stands alone for the crates that want no more.
 #![tactic(auto)]
 
 mod calls;
-pub mod gates;
-mod happening;
 pub mod host_shelves;
 pub mod host_sinks;
-mod meeting;
 pub mod memory_shelves;
 pub mod memory_sinks;
 pub mod shelves;
 pub mod sinks;
 
-pub use gates::{Gate, OpenGate, PairGate};
 pub use host_shelves::HostShelf;
 pub use host_sinks::HostSink;
 pub use memory_shelves::{MemoryShelf, SureShelf};
 pub use memory_sinks::{MemorySink, SureSink};
+pub use pct_gate::{Gate, OpenGate, PairGate};
 pub use shelves::{Shelf, ShelfError};
 pub use sinks::{Sink, SinkError};
 

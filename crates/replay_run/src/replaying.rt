@@ -12,7 +12,7 @@ ghost use Rattle.replay_run.specs.Replay.{IsReplay};
 use crate::answer::Replayed;
 use crate::compare::compare;
 use pct_ask::{Deal, Event};
-use pct_outside::Gate;
+use pct_gate::Gate;
 use policy_pick::Listed;
 use script_body::bodies_of;
 use script_code::Code;

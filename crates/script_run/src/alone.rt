@@ -10,7 +10,7 @@ ghost use Rattle.script_run.specs.Batches.{Decides, AreRunnersOf, IsSetFor};
 use crate::batch::Batch;
 use crate::ready::ReadyScript;
 use pct_ask::Outcome;
-use pct_outside::Gate;
+use pct_gate::Gate;
 use policy_pick::Policy;
 use script_body::ScriptBody;
 use script_code::Code;

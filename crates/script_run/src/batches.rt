@@ -8,7 +8,7 @@ ghost use Rattle.script_run.specs.Batches.{Decides, FromPlace};
 
 use crate::alone::run_alone;
 use crate::batch::Batch;
-use pct_outside::Gate;
+use pct_gate::Gate;
 use script_body::ScriptBody;
 use std::alloc::{AllocError as NoMemory, Global};
 use std::sync::Wait;

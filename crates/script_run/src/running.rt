@@ -14,7 +14,7 @@ ghost use Rattle.script_run.specs.Ready.{bodies_of_code};
 
 use crate::ready::ReadyScript;
 use pct_ask::{Body, Limit};
-use pct_outside::Gate;
+use pct_gate::Gate;
 use policy_pick::{DirectedPolicy, DirectedPriorities, Pct, Policy, Priorities};
 use std::alloc::{AllocError as NoMemory, Global};
 use std::sync::Wait;

@@ -15,7 +15,7 @@ use crate::common::{Reach, Sweep};
 use crate::next::{Counts, NextRuns};
 use failure_rank::Tally;
 use pct_ask::{Event, Limit, Outcome, Row};
-use pct_outside::Gate;
+use pct_gate::Gate;
 use policy_pick::{Pct, Priorities};
 use script_run::{Batch, ReadyScript, run_batch};
 use std::alloc::{AllocError as NoMemory, Global};

@@ -10,7 +10,7 @@ use crate::common::Sweep;
 use crate::next::Counts;
 use failure_rank::Groups;
 use pct_ask::{Deal, Depth, Limit};
-use pct_outside::Gate;
+use pct_gate::Gate;
 use script_code::Code;
 use script_run::ReadyScript;
 use std::alloc::{AllocError as NoMemory, Global};

@@ -4,7 +4,7 @@ ghost use Rattle.std.specs.Prelude.{◌≤◌};
 use crate::scripts::{ONE, code_and_deal};
 use campaign::campaign;
 use pct_ask::{Row, Verdict};
-use pct_outside::OpenGate;
+use pct_gate::OpenGate;
 use std::alloc::Global;
 use std::process::Abort;
 use std::sync::Wait;

@@ -6,7 +6,7 @@ use crate::scripts::{ADDERS, EIGHT, FAILED, FIRST_OF_A, LAST_FAILS, ONE, SEVEN, 
 use directive::Directive;
 use directive_run::{Certified, CertifyRow, Exposed, certify, expose};
 use pct_ask::{Outcome, Verdict};
-use pct_outside::OpenGate;
+use pct_gate::OpenGate;
 use policy_pick::{Moment, MomentList};
 use std::alloc::Global;
 use std::process::Abort;

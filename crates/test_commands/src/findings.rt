@@ -3,7 +3,7 @@ ghost use Rattle.std.specs.Prelude.{◌≤◌, length, All};
 
 use crate::scripts::{ADDERS, FAILED, FIRST_OF_A, code_and_deal};
 use directive_find::{FoundOut, find};
-use pct_outside::OpenGate;
+use pct_gate::OpenGate;
 use std::alloc::Global;
 use std::process::Abort;
 use std::sync::Wait;

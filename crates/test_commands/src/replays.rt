@@ -3,7 +3,7 @@ ghost use Rattle.std.specs.Prelude.{◌≡◌, ◌≤◌, IfOk};
 
 use crate::scripts::{ADDERS, FAILED, code_and_deal};
 use pct_ask::{Ask, Event, EventList, Sequence, Verdict};
-use pct_outside::OpenGate;
+use pct_gate::OpenGate;
 use replay_run::{Found, Replayed, Written, replay};
 use std::alloc::{AllocError as NoMemory, Global};
 use std::process::Abort;

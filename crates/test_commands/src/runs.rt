@@ -9,7 +9,7 @@ ghost use Rattle.worker_run.specs.Played.{IsRun};
 
 use crate::scripts::{ADDERS, FAILED, FIRST_OF_A, code_and_deal};
 use pct_ask::{Event, Limit, Outcome, Verdict};
-use pct_outside::OpenGate;
+use pct_gate::OpenGate;
 use policy_pick::{DirectedPriorities, Pct, Priorities};
 use script_run::{Batch, ReadyScript, run_batch};
 use std::alloc::{AllocError as NoMemory, Global};

@@ -14,7 +14,7 @@ ghost use Rattle.pct_ask.specs.declared.limits.TheConstants.{MAX_THREADS};
 
 use crate::runner::{Runner, is_over};
 use pct_ask::{Body, Post};
-use pct_outside::Gate;
+use pct_gate::Gate;
 use policy_pick::Policy;
 use std::sync::Wait;
 use turn_book::TurnBook;

@@ -7,7 +7,7 @@ ghost use Rattle.worker_run.specs.Tests.{IsRunBy, IsNew, AreNewRunners};
 use crate::alone::serve_alone;
 use crate::runner::Runner;
 use pct_ask::{Body, Outcome};
-use pct_outside::Gate;
+use pct_gate::Gate;
 use policy_pick::Policy;
 use std::sync::Wait;
 use turn_book::TurnBook;

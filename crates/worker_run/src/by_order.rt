@@ -12,7 +12,7 @@ ghost use Rattle.worker_run.specs.Played.{IsPlayed};
 use crate::played::{Played, verdict_of};
 use crate::run::run_threads;
 use pct_ask::{Body, Deal, EventList, Limit, Outcome, Verdict};
-use pct_outside::Gate;
+use pct_gate::Gate;
 use policy_pick::{DirectedPolicy, DirectedPriorities, Pct, Priorities};
 use std::alloc::{AllocError as NoMemory, Global};
 use std::sync::Wait;

@@ -16,7 +16,7 @@ use crate::share::has_runner;
 use crate::task_lists::empty_lists;
 use crate::workers::serve_tests;
 use pct_ask::{Body, EventList};
-use pct_outside::Gate;
+use pct_gate::Gate;
 use policy_pick::Policy;
 use std::alloc::{AllocError as NoMemory, Global};
 use std::snapshot::Snapshot;

@@ -16,7 +16,7 @@ use crate::by_caller::serve_by_caller;
 use crate::lent::{run_on, runners_of};
 use crate::played::Played;
 use pct_ask::{Body, Deal, EventList, Limit, Sequence};
-use pct_outside::Gate;
+use pct_gate::Gate;
 use policy_pick::Policy;
 use std::alloc::{AllocError as NoMemory, Global};
 use std::sync::Wait;

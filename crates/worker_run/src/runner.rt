@@ -11,7 +11,7 @@ ghost use Rattle.turn_lock.specs.declared.turn.Turn.{Turn};
 ghost use Rattle.worker_run.specs.Served.{IsRunning, Moves, IsOver, is_over};
 
 use pct_ask::Body;
-use pct_outside::Gate;
+use pct_gate::Gate;
 use policy_pick::Policy;
 use std::sync::Wait;
 use turn_lock::{Brief, Seat, TurnLock};

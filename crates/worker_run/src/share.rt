@@ -13,7 +13,7 @@ ghost use Rattle.pct_ask.specs.declared.limits.TheConstants.{MAX_THREADS};
 
 use crate::runner::Runner;
 use pct_ask::Body;
-use pct_outside::Gate;
+use pct_gate::Gate;
 use policy_pick::Policy;
 use std::sync::Wait;
 use turn_lock::{Brief, Seat, TurnLock};

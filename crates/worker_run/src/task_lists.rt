@@ -8,7 +8,7 @@ ghost use Rattle.pct_ask.specs.declared.limits.TheConstants.{MAX_THREADS};
 use crate::batch::{RunningTest, Share, Task};
 use crate::tasks::{join_task, serve_share, serve_task, take_task, task_of};
 use pct_ask::Body;
-use pct_outside::Gate;
+use pct_gate::Gate;
 use policy_pick::Policy;
 use std::alloc::{AllocError as NoMemory, Global};
 use std::sync::Wait;

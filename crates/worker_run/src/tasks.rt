@@ -13,7 +13,7 @@ use crate::batch::{RunningTest, Share, Task};
 use crate::runner::Runner;
 use crate::share::serve_all;
 use pct_ask::Body;
-use pct_outside::Gate;
+use pct_gate::Gate;
 use policy_pick::Policy;
 use std::mem;
 use std::sync::Wait;

@@ -10,7 +10,7 @@ use crate::batch::{RunningTest, Share, Task};
 use crate::start::start;
 use crate::task_lists::{fill_lists, join_tasks, serve_shares, serve_tasks, take_tasks};
 use pct_ask::Body;
-use pct_outside::Gate;
+use pct_gate::Gate;
 use policy_pick::Policy;
 use std::snapshot::Snapshot;
 use std::sync::Wait;

@@ -6,10 +6,10 @@ use Rattle.std.proofs.lemmas.Bool.Decides.{nat_tests}
 use mathlib.Core.List.{IsPrefix}
 use prog.Atomic.{either}
 use Rattle.logbook.specs.Pages.{Cell, cell, keeps, no_nib, Goes, Moves, step}
-use Rattle.pct_outside.specs.declared.happening.Happening.{Happening}
-use Rattle.pct_outside.specs.declared.happening.Happening.TheVariants.{Came, Saw}
-use Rattle.pct_outside.specs.Meeting.{HasHappening, MaySee, SawOther, WordTells, IsMeeting}
-use Rattle.pct_outside.specs.Meeting.{MarksArrival, looks_of}
+use Rattle.pct_gate.specs.declared.happening.Happening.{Happening}
+use Rattle.pct_gate.specs.declared.happening.Happening.TheVariants.{Came, Saw}
+use Rattle.pct_gate.specs.Meeting.{HasHappening, MaySee, SawOther, WordTells, IsMeeting}
+use Rattle.pct_gate.specs.Meeting.{MarksArrival, looks_of}
 
 has_more : (xs ys : List Happening) (m : Happening) → HasHappening xs m → HasHappening (xs ++ ys) m
 has_more [] ys m h = absurd h

@@ -1,8 +1,8 @@
 //! Two guests who look for each other, each in a thread of its own.
 ghost use Rattle.std.specs.Prelude.{◌≡◌, ◌+◌, ◌-◌, ◌<◌, ◌∷◌, [], length, IfSome, IsTrue};
-ghost use Rattle.pct_outside.specs.Meeting.{HasHappening, MaySee, SawOther, IsGuestWord, looks_of};
-ghost use Rattle.pct_outside.specs.Meeting.{word_of_guest};
-ghost use Rattle.pct_outside.specs.declared.happening.Happening.TheVariants.{Opened, Came};
+ghost use Rattle.pct_gate.specs.Meeting.{HasHappening, MaySee, SawOther, IsGuestWord, looks_of};
+ghost use Rattle.pct_gate.specs.Meeting.{word_of_guest};
+ghost use Rattle.pct_gate.specs.declared.happening.Happening.TheVariants.{Opened, Came};
 
 use crate::happening::Happening;
 use logbook::{Gain, Offer, Opening, Plain, Play, Rule, Seen, Start, Word};
@@ -17,7 +17,7 @@ pub struct Law;
 impl Rule<Happening, u64> for Law {
     ghost use Rattle.std.specs.Prelude.{[]};
     ghost use base.Fml.{ftrue};
-    ghost use Rattle.pct_outside.specs.Meeting.{IsMeeting};
+    ghost use Rattle.pct_gate.specs.Meeting.{IsMeeting};
 
     ghost holds = { λ cells log. IsMeeting cells log };
 
@@ -46,7 +46,7 @@ pub struct Opens;
 
 impl Opening<u64, Happening> for Opens {
     ghost use Rattle.std.specs.Prelude.{[], ◌∷◌};
-    ghost use Rattle.pct_outside.specs.declared.happening.Happening.TheVariants.{Opened};
+    ghost use Rattle.pct_gate.specs.declared.happening.Happening.TheVariants.{Opened};
 
     ghost log = { λ count looks. Opened looks ∷ [] };
 }
@@ -55,14 +55,14 @@ impl Opening<u64, Happening> for Opens {
 pub struct Looking;
 
 impl Play<Happening, u64> for Looking {
-    ghost use Rattle.pct_outside.specs.Meeting.{LooksAtGuest};
+    ghost use Rattle.pct_gate.specs.Meeting.{LooksAtGuest};
 
     ghost then = { λ s v found w. LooksAtGuest s v found w };
 }
 
 impl Plain<(), Happening, u64> for Looking {
     ghost use Rattle.std.specs.Prelude.{None};
-    ghost use Rattle.pct_outside.specs.declared.happening.Happening.TheVariants.{Opened};
+    ghost use Rattle.pct_gate.specs.declared.happening.Happening.TheVariants.{Opened};
 
     ghost ask = { λ _. Opened 0 };
 
@@ -73,7 +73,7 @@ impl Plain<(), Happening, u64> for Looking {
 pub struct Marking;
 
 impl Play<Happening, u64> for Marking {
-    ghost use Rattle.pct_outside.specs.Meeting.{MarksArrival};
+    ghost use Rattle.pct_gate.specs.Meeting.{MarksArrival};
 
     ghost then = { λ s v found w. MarksArrival s v found w };
 }

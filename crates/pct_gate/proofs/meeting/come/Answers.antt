@@ -1,7 +1,7 @@
 use Rattle.std.proofs.Common.{◌<◌, List, length, ap, sym, subst, ◌∙◌}
-use Rattle.pct_outside.specs.declared.happening.Happening.{Happening}
-use Rattle.pct_outside.proofs.Meetings.{comes}
-use Rattle.pct_outside.proofs.meeting.come.Goals as goal
+use Rattle.pct_gate.specs.declared.happening.Happening.{Happening}
+use Rattle.pct_gate.proofs.Meetings.{comes}
+use Rattle.pct_gate.proofs.meeting.come.Goals as goal
 
 pub compare_exchange-requires : goal.compare_exchange-requires
 compare_exchange-requires c =

@@ -1,9 +1,9 @@
 use Rattle.std.proofs.Common.{◌-◌, List, ap, sym, subst}
-use Rattle.pct_outside.specs.declared.happening.Happening.{Happening}
-use Rattle.pct_outside.specs.declared.happening.Happening.TheVariants.{Came}
-use Rattle.pct_outside.specs.Meeting.{HasHappening}
-use Rattle.pct_outside.proofs.Meetings.{has_later}
-use Rattle.pct_outside.proofs.meeting.look.Goals as goal
+use Rattle.pct_gate.specs.declared.happening.Happening.{Happening}
+use Rattle.pct_gate.specs.declared.happening.Happening.TheVariants.{Came}
+use Rattle.pct_gate.specs.Meeting.{HasHappening}
+use Rattle.pct_gate.proofs.Meetings.{has_later}
+use Rattle.pct_gate.proofs.meeting.look.Goals as goal
 
 pub returns-then-found-ge-CAME-clause-came : goal.returns-then-found-ge-CAME-clause-came
 returns-then-found-ge-CAME-clause-came c =

@@ -3,8 +3,8 @@
 -- other. The log says what has happened.
 use Rattle.std.specs.Prelude.{◌≡◌, ℕ, ◌-◌, ◌<◌, ◌≤◌, ◌⊎◌, true, List, [], ◌∷◌, length}
 use Rattle.logbook.specs.Pages.{Book, Cell, Named, Step, View, cell}
-use Rattle.pct_outside.specs.declared.happening.Happening.{Happening}
-use Rattle.pct_outside.specs.declared.happening.Happening.TheVariants.{Opened, Came, Saw}
+use Rattle.pct_gate.specs.declared.happening.Happening.{Happening}
+use Rattle.pct_gate.specs.declared.happening.Happening.TheVariants.{Opened, Came, Saw}
 
 -- the happening is in the log
 abbrev pub HasHappening : List Happening → Happening → Type 0

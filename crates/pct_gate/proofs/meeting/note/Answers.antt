@@ -1,6 +1,6 @@
 use Rattle.std.proofs.Common.{sym, ◌∙◌}
-use Rattle.pct_outside.proofs.Meetings.{notes}
-use Rattle.pct_outside.proofs.meeting.note.Goals as goal
+use Rattle.pct_gate.proofs.Meetings.{notes}
+use Rattle.pct_gate.proofs.meeting.note.Goals as goal
 
 pub compare_exchange-requires : goal.compare_exchange-requires
 compare_exchange-requires c =

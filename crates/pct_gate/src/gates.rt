@@ -37,7 +37,7 @@ pub struct PairGate {
 /// Contracts see what the gate was made for. Who has come and who has seen whom, other threads
 /// change at any time.
 impl Model for PairGate {
-    ghost use Rattle.pct_outside.specs.GateState.{GateState};
+    ghost use Rattle.pct_gate.specs.GateState.{GateState};
 
     ghost Value = { GateState };
 

@@ -1,0 +1,2 @@
+pub mod GateState
+pub mod Meeting
