@@ -1,5 +1,5 @@
 -- The test that the program shows, and what is written of its run (this project).
-use Rattle.std.specs.Prelude.{◌≡◌, ◌≢◌, ◌⊎◌, ℕ, ℤ, pos, List, [], ◌∷◌, Option, Some, codes}
+use Rattle.std.specs.Prelude.{◌≡◌, ◌≢◌, ◌⊎◌, ℕ, ℤ, pos, List, [], ◌∷◌, Some, codes}
 use Rattle.pct_ask.specs.NameLists.{NameLists}
 use Rattle.pct_ask.specs.TraceText.{TraceHead, trace_text}
 use Rattle.pct_ask.specs.VerdictText.{IsLine}
@@ -7,7 +7,8 @@ use Rattle.pct_ask.specs.declared.Deal.{Deal}
 use Rattle.pct_ask.specs.declared.verdict.Verdict.TheVariants.{Passed}
 use Rattle.pct_ask.specs.Objects.{Sizes}
 use Rattle.pct_ask.specs.Bodies.{Pending, IsInRangeBody}
-use Rattle.pct_outside.specs.Piece.{IsAppended, IsPartAppended}
+use Rattle.pct_outside.specs.Puts.{IsPutWhole, IsPutInPart}
+use Rattle.pct_outside.specs.Told.{StreamTold}
 use Rattle.worker_run.specs.Run.{Run, run}
 use Rattle.kit_main.specs.declared.shown.Shown.{Shown}
 use Rattle.kit_main.specs.declared.shown.Shown.TheVariants.{Done, Found, WriteFault, NoMemory}
@@ -78,18 +79,18 @@ IsShownRun bodies r = IsRunOfBodies bodies test_head.limit r
 abbrev pub text_of_run : Run → List ℕ
 text_of_run r = trace_text test_head test_names r.0 r.1
 
--- the trace of the run was written whole
-abbrev pub PutsTrace : List Pending → Option (List ℕ) → Option (List ℕ) → Run → Type 0
-PutsTrace bodies before after r = IsShownRun bodies r × IsAppended (text_of_run r) before after
+-- the trace of the run was put whole
+abbrev pub PutsTrace : List Pending → StreamTold → StreamTold → Run → Type 0
+PutsTrace bodies before after r = IsShownRun bodies r × IsPutWhole (text_of_run r) before after
 
--- a beginning of it was written, or nothing was
-abbrev pub PutsPartOfTrace : List Pending → Option (List ℕ) → Option (List ℕ) → Type 0
+-- a beginning of it was put, or nothing was
+abbrev pub PutsPartOfTrace : List Pending → StreamTold → StreamTold → Type 0
 PutsPartOfTrace bodies before after =
-    ((r : Run) × IsShownRun bodies r × IsPartAppended (text_of_run r) before after)
+    ((r : Run) × IsShownRun bodies r × IsPutInPart (text_of_run r) before after)
     ⊎ (after ≡ before)
 
--- what is written with each answer
-abbrev pub Shows : List Pending → Option (List ℕ) → Option (List ℕ) → Shown → Type 0
+-- what is put with each answer
+abbrev pub Shows : List Pending → StreamTold → StreamTold → Shown → Type 0
 Shows bodies before after Done = (r : Run) × PutsTrace bodies before after r × (r.1 ≡ Passed)
 Shows bodies before after Found = (r : Run) × PutsTrace bodies before after r × (r.1 ≢ Passed)
 Shows bodies before after WriteFault = PutsPartOfTrace bodies before after

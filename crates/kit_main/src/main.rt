@@ -62,7 +62,7 @@ fn show_samples<R: Threads + Wait + Sync, O: Sink>(
 
 fn main(rt: HostRuntime) -> ExitCode {
     let alloc = rt.alloc();
-    let mut out = HostSink::output(rt.stdout());
+    let mut out = HostSink::output(rt.alloc(), rt.stdout());
     let one: Result<_, _> = Box::new(alloc, Sample::new(0));
     let other: Result<_, _> = Box::new(alloc, Sample::new(1));
     let last: Result<_, _> = Box::new(alloc, Sample::new(2));

@@ -9,7 +9,7 @@ use crate::shown::Shown;
 use crate::test_parts::{LIMIT, ORDER, POINTS, deal, header, names};
 use body_kit::{BoxedRun, KitError, run_boxed};
 use pct_ask::{Body, Verdict};
-use pct_outside::{Gate, Sink, SinkError};
+use pct_outside::{Gate, Sink, SinkError, put_whole};
 use std::alloc::{AllocError as NoMemory, Global};
 use std::sync::Wait;
 use std::thread::Threads;
@@ -92,14 +92,14 @@ pub fn show<R: Threads + Wait + Sync, O: Sink, G: Gate>(
 ) -> Shown
     requires three { length bodies.items ≡ 3 }
     requires bodies { All IsShowableBody (map pending bodies.items) }
-    ensures shows { Shows (map pending bodies.items) (O.written out.old) (O.written out.new)
-        result }
-    ensures write_fault { result ≡ Shown.WriteFault → Rose (O.faults out.old) (O.faults out.new) }
+    ensures shows { Shows (map pending bodies.items) (O.told out.old) (O.told out.new) result }
+    ensures write_fault { result ≡ Shown.WriteFault
+        → Rose (O.told out.old).faults (O.told out.new).faults }
 {
     let Ok(traced) = trace_of(rt, alloc, bodies, gate) else {
         return Shown::NoMemory;
     };
-    match out.put(traced.text.as_slice()) {
+    match put_whole(out, traced.text.as_slice()) {
         Ok(()) => status_of(&traced.verdict),
         Err(SinkError::Failed) => Shown::WriteFault,
         Err(SinkError::NoMemory) => Shown::NoMemory,

@@ -4,7 +4,7 @@ use Rattle.std.specs.List.{find}
 use Rattle.std.specs.Option.{option_map}
 use Rattle.std.specs.Str.{bytes_eq}
 use Rattle.pct_outside.specs.Counter.{Rose}
-use Rattle.pct_outside.specs.Piece.{IsAppended, IsPartAppended}
+use Rattle.pct_outside.specs.Puts.{IsPutWhole, IsPutInPart}
 use Rattle.pct_top.specs.declared.refusal.Refusal.TheVariants.{Write, Memory}
 use Rattle.pct_top.specs.declared.status.Status.{Status}
 use Rattle.pct_top.specs.declared.status.Status.TheVariants.{Done, WriteFault, NoMemory}
@@ -53,11 +53,11 @@ answer_to (word ∷ other ∷ another ∷ words) = None
 -- The text was put on the output whole, and nothing was said. Where the output refused it, or there
 -- was no memory, a part of it may be there, and that is said on the error stream.
 abbrev pub IsPut : List ℕ → StreamTold → StreamTold → StreamTold → StreamTold → Status → Type 0
-IsPut text out out' err err' Done = IsAppended text out.written out'.written × (err' ≡ err)
+IsPut text out out' err err' Done = IsPutWhole text out out' × (err' ≡ err)
 IsPut text out out' err err' WriteFault =
-    Rose out.faults out'.faults × IsPartAppended text out.written out'.written
+    Rose out.faults out'.faults × IsPutInPart text out out'
     × SaysLine (refusal_line Write) err err'
 IsPut text out out' err err' NoMemory =
-    Rose out.shorts out'.shorts × IsPartAppended text out.written out'.written
+    Rose out.shorts out'.shorts × IsPutInPart text out out'
     × SaysLine (refusal_line Memory) err err'
 IsPut text out out' err err' status = ⊥

@@ -19,7 +19,7 @@ mod explanations;
 mod own;
 
 use own::Own;
-use pct_outside::{HostShelf, HostSink, OpenGate, Shelf, Sink};
+use pct_outside::{HostShelf, HostSink, OpenGate, Shelf, Sink, put_whole};
 use pct_top::{Refusal, Status, pct, say};
 use std::env::{self, Env};
 use std::io::{self, ErrorKind};
@@ -58,16 +58,8 @@ fn refusal_of(error: &io::Error) -> Refusal {
 fn refuse<E: Sink>(err: &mut E, refusal: &Refusal) -> Status
     ensures status { result ≡ status_of_refusal refusal.now }
     ensures said { SaysLine (refusal_line refusal.now)
-        (record {
-          written = E.written err.old;
-          faults = E.faults err.old;
-          shorts = E.shorts err.old;
-        })
-        (record {
-          written = E.written err.new;
-          faults = E.faults err.new;
-          shorts = E.shorts err.new;
-        }) }
+        (E.told err.old)
+        (E.told err.new) }
 {
     say(err, refusal);
     refusal.status()
@@ -76,29 +68,13 @@ fn refuse<E: Sink>(err: &mut E, refusal: &Refusal) -> Status
 /// The program's own answer, put on the output, or the line that says why not on the error stream.
 fn put_answer<O: Sink, E: Sink>(out: &mut O, err: &mut E, text: &str) -> Status
     ensures { IsPut text.now
-        (record {
-          written = O.written out.old;
-          faults = O.faults out.old;
-          shorts = O.shorts out.old;
-        })
-        (record {
-          written = O.written out.new;
-          faults = O.faults out.new;
-          shorts = O.shorts out.new;
-        })
-        (record {
-          written = E.written err.old;
-          faults = E.faults err.old;
-          shorts = E.shorts err.old;
-        })
-        (record {
-          written = E.written err.new;
-          faults = E.faults err.new;
-          shorts = E.shorts err.new;
-        })
+        (O.told out.old)
+        (O.told out.new)
+        (E.told err.old)
+        (E.told err.new)
         result }
 {
-    match out.put(text.as_bytes()) {
+    match put_whole(out, text.as_bytes()) {
         Ok(()) => Status::Done,
         Err(error) => refuse(err, &Refusal::from(error)),
     }
@@ -114,30 +90,14 @@ fn answer_words<R: AllocGlobal + Threads + Wait + Sync, H: Shelf, O: Sink, E: Si
 ) -> Status
     ensures { IsCallDone (texts_of words.now)
         (record {
-          shelf = record { files = H.files shelf.old; failed = H.failed shelf.old };
-          output = record {
-            written = O.written out.old;
-            faults = O.faults out.old;
-            shorts = O.shorts out.old;
-          };
-          errors = record {
-            written = E.written err.old;
-            faults = E.faults err.old;
-            shorts = E.shorts err.old;
-          };
+          shelf = H.told shelf.old;
+          output = O.told out.old;
+          errors = E.told err.old;
         })
         (record {
-          shelf = record { files = H.files shelf.new; failed = H.failed shelf.new };
-          output = record {
-            written = O.written out.new;
-            faults = O.faults out.new;
-            shorts = O.shorts out.new;
-          };
-          errors = record {
-            written = E.written err.new;
-            faults = E.faults err.new;
-            shorts = E.shorts err.new;
-          };
+          shelf = H.told shelf.new;
+          output = O.told out.new;
+          errors = E.told err.new;
         }) result }
 {
     match Own::of_words(words) {
@@ -160,8 +120,8 @@ fn status_of<R: Env + AllocGlobal + Threads + Wait + Sync, H: Shelf, O: Sink, E:
 }
 
 fn main(rt: HostRuntime) -> ExitCode {
-    let mut out = HostSink::output(rt.stdout());
-    let mut err = HostSink::errors(rt.stderr());
+    let mut out = HostSink::output(rt.alloc(), rt.stdout());
+    let mut err = HostSink::errors(rt.alloc(), rt.stderr());
     let mut shelf = HostShelf::new(&rt);
     ExitCode::from(status_of(&rt, &mut shelf, &mut out, &mut err) as u8)
 }

@@ -6,3 +6,4 @@ pub mod Files
 pub mod ShelfState
 pub mod SinkState
 pub mod Told
+pub mod Puts

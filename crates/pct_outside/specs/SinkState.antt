@@ -18,9 +18,10 @@ pub record SureSinkState : Type 0 where
   pub written : List ℕ
   pub shorts : ℕ
 
--- a sink over a stream, with its two counts
+-- a sink over a stream, with the bytes that it gathers and its two counts
 pub record StreamState (W : Type 0) : Type 0 where
   pub stream : W
+  pub gathered : List ℕ
   pub faults : ℕ
   pub shorts : ℕ
 

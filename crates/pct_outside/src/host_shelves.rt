@@ -1,6 +1,6 @@
 //! The host's files. No clause tells their bytes: what the host gives for a name is trusted, and
 //! that the first bytes of it are handed on is proved.
-ghost use Rattle.std.specs.Prelude.{◌≡◌, [], ◌≤◌, ◌⊎◌, IfOk, IfSome, vec_len, None};
+ghost use Rattle.std.specs.Prelude.{◌≡◌, [], ◌≤◌, ◌⊎◌, IfOk, IfSome, vec_len};
 ghost use Rattle.pct_outside.specs.Reading.{FirstBytes, names_with};
 ghost use Rattle.pct_outside.specs.ShelfState.{names_after};
 
@@ -41,9 +41,9 @@ impl<R: Files + AllocGlobal + Drop> HostShelf<R> {
 }
 
 impl<R: Files + AllocGlobal + Drop> Shelf for HostShelf<R> {
-    ghost files = { λ _. None };
+    ghost use Rattle.std.specs.Prelude.{None, true};
 
-    ghost failed = { λ s. s };
+    ghost told = { λ s. record { files = None; failed = s; keeps = true } };
 
     fn read_up_to(&mut self, name: &str, most: u64) -> Result<Vec<u8>, ShelfError>
         ensures kept { self.new ≡ names_after self.old name.now result }

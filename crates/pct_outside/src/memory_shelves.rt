@@ -120,12 +120,14 @@ impl MemoryShelf {
 }
 
 impl Shelf for MemoryShelf {
-    ghost use Rattle.std.specs.Prelude.{Some};
+    ghost use Rattle.std.specs.Prelude.{Some, true};
     ghost use Rattle.pct_outside.specs.Files.{bytes_of};
 
-    ghost files = { λ s. Some (bytes_of s.files) };
-
-    ghost failed = { λ s. s.failed };
+    ghost told = { λ s. record {
+      files = Some (bytes_of s.files);
+      failed = s.failed;
+      keeps = true;
+    } };
 
     fn read_up_to(&mut self, name: &str, most: u64) -> Result<Vec<u8>, ShelfError>
         ensures refused { FailsOnly (is_refused self.old name.now) result }
@@ -190,12 +192,10 @@ impl SureShelf {
 }
 
 impl Shelf for SureShelf {
-    ghost use Rattle.std.specs.Prelude.{Some};
+    ghost use Rattle.std.specs.Prelude.{[], Some, true};
     ghost use Rattle.pct_outside.specs.Files.{bytes_of};
 
-    ghost files = { λ s. Some (bytes_of s) };
-
-    ghost failed = { λ _. [] };
+    ghost told = { λ s. record { files = Some (bytes_of s); failed = []; keeps = true } };
 
     fn read_up_to(&mut self, name: &str, most: u64) -> Result<Vec<u8>, ShelfError>
         ensures sure { result ≢ Err ShelfError.Failed }

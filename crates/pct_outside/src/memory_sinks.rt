@@ -55,13 +55,14 @@ impl MemorySink {
 }
 
 impl Sink for MemorySink {
-    ghost use Rattle.std.specs.Prelude.{Some};
+    ghost use Rattle.std.specs.Prelude.{[], Some};
 
-    ghost written = { λ s. Some s.written };
-
-    ghost faults = { λ s. s.faults };
-
-    ghost shorts = { λ s. s.shorts };
+    ghost told = { λ s. record {
+      written = Some s.written;
+      gathered = [];
+      faults = s.faults;
+      shorts = s.shorts;
+    } };
 
     fn put(&mut self, piece: &[u8]) -> Result<(), SinkError>
         ensures fails { FailsExactly (is_next self.old.fails self.old.calls) result }
@@ -81,6 +82,14 @@ impl Sink for MemorySink {
             self.shorts = self.shorts.saturating_add(1);
             return Err(SinkError::NoMemory);
         }
+        Ok(())
+    }
+
+    /// Nothing is gathered.
+    fn finish(&mut self) -> Result<(), SinkError>
+        ensures done { result ≡ Ok tt }
+        ensures same { self.new ≡ self.old }
+    {
         Ok(())
     }
 }
@@ -120,13 +129,14 @@ impl SureSink {
 }
 
 impl Sink for SureSink {
-    ghost use Rattle.std.specs.Prelude.{Some};
+    ghost use Rattle.std.specs.Prelude.{[], Some};
 
-    ghost written = { λ s. Some s.written };
-
-    ghost faults = { λ _. 0 };
-
-    ghost shorts = { λ s. s.shorts };
+    ghost told = { λ s. record {
+      written = Some s.written;
+      gathered = [];
+      faults = 0;
+      shorts = s.shorts;
+    } };
 
     fn put(&mut self, piece: &[u8]) -> Result<(), SinkError>
         ensures written { self.new.written ≡ written_after self.old.written piece.now result }
@@ -141,6 +151,14 @@ impl Sink for SureSink {
             self.shorts = self.shorts.saturating_add(1);
             return Err(SinkError::NoMemory);
         }
+        Ok(())
+    }
+
+    /// Nothing is gathered.
+    fn finish(&mut self) -> Result<(), SinkError>
+        ensures done { result ≡ Ok tt }
+        ensures same { self.new ≡ self.old }
+    {
         Ok(())
     }
 }

@@ -1,9 +1,11 @@
 //! Where files are read from.
-ghost use Rattle.std.specs.Prelude.{◌≡◌, ℕ, ◌≤◌, List, ◌⊎◌, ◌↔◌, Option, IfOk, OnOk, OnErr};
+ghost use Rattle.std.specs.Prelude.{◌≡◌, ◌≤◌, ◌⊎◌, ◌↔◌, true, IfOk, OnOk, OnErr};
 ghost use Rattle.std.specs.Prelude.{vec_len};
 ghost use Rattle.std.specs.IoError.{error_kind};
 ghost use Rattle.std.specs.declared.io.ErrorKind.TheVariants.{OutOfMemory};
 ghost use Rattle.pct_outside.specs.Reading.{FirstOf, names_with, texts_of};
+ghost use Rattle.pct_outside.specs.ShelfState.{names_after};
+ghost use Rattle.pct_outside.specs.Told.{ShelfTold};
 ghost use Rattle.pct_outside.specs.declared.shelves.ShelfError.TheVariants.{NoMemory};
 
 use std::alloc::{AllocError, AllocFailed, Global};
@@ -49,24 +51,27 @@ impl From<io::Error> for ShelfError {
 
 /// Files that are read by their names.
 pub trait Shelf {
-    /// The bytes of each file by its name, where the shelf tells them. A name that it does not hold
-    /// has no bytes.
-    ghost files: { Self → Option (List ℕ → List ℕ) };
-
-    /// The names of the reads that have failed, in the order of the calls.
-    ghost failed: { Self → List (List ℕ) };
+    /// What the shelf tells of itself: the bytes of each file by its name, where it tells them, of
+    /// which a name that it does not hold has none; the names of the reads that have failed, in the
+    /// order of the calls; and whether it keeps the names of these reads alone.
+    ghost told: { Self → ShelfTold };
 
     /// Reads the first bytes of a file, at most `most`.
     fn read_up_to(&mut self, name: &str, most: u64) -> Result<Vec<u8>, ShelfError>
         ensures most { IfOk result (λ bytes. vec_len bytes ≤ most) }
-        ensures first { IfOk result (λ bytes. FirstOf (files self.old) name.now most bytes.items) }
-        ensures files { files self.new ≡ files self.old }
+        ensures first { IfOk result (λ bytes.
+            FirstOf (told self.old).files name.now most bytes.items) }
+        ensures files { (told self.new).files ≡ (told self.old).files }
 
-        // No name is kept but this one, and that of a failed read is.
-        ensures failed { (failed self.new ≡ failed self.old)
-            ⊎ (failed self.new ≡ names_with (failed self.old) name.now) }
+        // No name is kept but this one, and that of a failed read is. Where the names of failed
+        // reads alone are kept, that of another isn't.
+        ensures failed { ((told self.new).failed ≡ (told self.old).failed)
+            ⊎ ((told self.new).failed ≡ names_with (told self.old).failed name.now) }
         ensures cause { result ≡ Err ShelfError.Failed
-            → failed self.new ≡ names_with (failed self.old) name.now };
+            → (told self.new).failed ≡ names_with (told self.old).failed name.now }
+        ensures alone { (told self.old).keeps ≡ true
+            → (told self.new).failed ≡ names_after (told self.old).failed name.now result }
+        ensures keeps { (told self.new).keeps ≡ (told self.old).keeps };
 }
 
 /// Keeps the name of a read that failed.

@@ -1,8 +1,8 @@
 -- What a call does to the streams, from what comes of its words.
 use Rattle.std.proofs.Common.{◌≡◌, ℕ, Bool, List, [], inl, inr, Some, Result, Ok, Err, refl, sym}
 use Rattle.std.proofs.Common.{subst}
-use Rattle.pct_outside.specs.Piece.{IsAppended, IsPartAppended}
-use Rattle.pct_outside.proofs.laws.Pieces.{IsAppended-nil, IsPartAppended-nil}
+use Rattle.pct_outside.specs.Puts.{IsPutWhole, IsPutInPart}
+use Rattle.pct_outside.proofs.laws.Puts.{IsPutWhole-nil, IsPutInPart-nil}
 use Rattle.pct_top.specs.declared.refusal.Refusal.{Refusal}
 use Rattle.pct_top.specs.declared.refusal.Refusal.TheVariants.{Usage, Script, Trace, Directive}
 use Rattle.pct_top.specs.declared.refusal.Refusal.TheVariants.{Read, Write, Memory}
@@ -21,7 +21,7 @@ use Rattle.pct_top.specs.Call.{IsCarriedOut, PrintsOne, PutsAll, PutsOutput, Ref
 use Rattle.pct_top.specs.Call.{ReadFailed}
 use Rattle.pct_top.specs.Call.{AnswersCall, RefusedWords, CanRun, Completes, PrintsAll, IsExact}
 use Rattle.pct_top.specs.Call.{PrintsWhole, Refuses, Ends, LeavesShelf, ReadsNone, is_read_fault}
-use Rattle.pct_top.specs.Call.{with_files, EndsExactly, IsCall}
+use Rattle.pct_top.specs.Call.{with_told, with_files, EndsExactly, IsCall}
 use Rattle.pct_top.specs.Reads.{is_missed}
 use Rattle.pct_top.proofs.Shelves.{done_is_read, refusal_is_read}
 use Rattle.pct_top.proofs.OneReport.{told_answers}
@@ -91,8 +91,8 @@ module _ (words : List (List ℕ)) (found left : Outside) where
   says_nothing line none same =
       let P : StreamTold → Type 0 = λ s. SaysLine line found.errors s in
       subst P (sym same)
-      (inl (subst (λ l. IsAppended l (found.errors).written (found.errors).written)
-      (sym none) (IsAppended-nil (found.errors).written)))
+      (inl (subst (λ (l : List ℕ). IsPutWhole l found.errors found.errors) (sym none)
+      (IsPutWhole-nil found.errors)))
 
   whole : (status : Status) → left.errors ≡ found.errors
       → PrintsOne taken (found.shelf).files (PutsAll found.output left.output status)
@@ -114,10 +114,10 @@ module _ (words : List (List ℕ)) (found left : Outside) where
   ends_ran statuses.NoMemory same p = absurd p.0
 
   put_nothing : left.output ≡ found.output
-      → IsAppended [] (found.output).written (left.output).written
+      → IsPutWhole [] found.output left.output
   put_nothing same =
-      subst (λ (s : StreamTold). IsAppended [] (found.output).written s.written) (sym same)
-      (IsAppended-nil (found.output).written)
+      subst (λ (s : StreamTold). IsPutWhole [] found.output s) (sym same)
+      (IsPutWhole-nil found.output)
 
   refuses : (refusal : Refusal) → left.output ≡ found.output
       → ShowsFiles (OfTaken taken) (found.shelf).files (printed_refusal refusal)
@@ -163,8 +163,8 @@ module _ (words : List (List ℕ)) (found left : Outside) where
   exact statuses.WriteFault h = λ files is printed may. (part _ h.1 files is printed may).1
   exact statuses.NoMemory h = λ files is printed may. elim h.0 [
     | inl same ↦ subst (λ (s : StreamTold).
-        IsPartAppended printed.out (found.output).written s.written) (sym same)
-        (IsPartAppended-nil printed.out (found.output).written)
+        IsPutInPart printed.out found.output s) (sym same)
+        (IsPutInPart-nil printed.out found.output)
     | inr some ↦ (part _ some files is printed may).1
   ]
 
@@ -227,7 +227,7 @@ module _ (words : List (List ℕ)) (found left : Outside) where
 module _ (words : List (List ℕ)) (found left : Outside) where
   abbrev IsOver : NamedFiles → Result Status Refusal → Type 0
   IsOver files r = AnswersCall (settings words)
-      (record { files = Some files; failed = (found.shelf).failed }) left.shelf found.output
+      (with_told files found.shelf) left.shelf found.output
       left.output r
 
   abbrev IsAny : Result Status Refusal → Type 0

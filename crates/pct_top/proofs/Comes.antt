@@ -46,18 +46,23 @@ missed_one : (name : List ℕ) (failed failed' : List (List ℕ)) → failed' �
     → IsGained name failed failed'
 missed_one name failed failed' is = (name ∷ [], is, (0, omega arith, refl))
 
-missed_after : (name : List ℕ) (failed middle failed' : List (List ℕ)) (file : Option (List ℕ))
-    → KeepsFile file false failed middle → failed' ≡ names_with middle name
-    → IsGained name failed failed'
-missed_after name failed middle failed' None keeps is =
-    missed_one name failed failed' (is ∙ ap (λ l. names_with l name) keeps.1)
-missed_after name failed middle failed' (Some one) (inr keeps) is =
-    missed_one name failed failed' (is ∙ ap (λ l. names_with l name) keeps.1)
-missed_after name failed middle failed' (Some one) (inl more) is = (
-  one ∷ name ∷ [],
-  is ∙ ap (λ l. names_with l name) more ∙ append_assoc failed (one ∷ []) (name ∷ []),
-  (1, omega arith, refl),
-)
+missed_after : (name : List ℕ) (before middle : ShelfTold) (failed' : List (List ℕ))
+    (file : Option (List ℕ)) → KeepsFile file false before middle
+    → failed' ≡ names_with middle.failed name → IsGained name before.failed failed'
+missed_after name before middle failed' None keeps is =
+    missed_one name before.failed failed'
+    (is ∙ ap (λ (s : ShelfTold). names_with s.failed name) keeps.1)
+missed_after name before middle failed' (Some one) keeps is =
+    elim keeps.failed [
+      | inr same ↦
+          missed_one name before.failed failed' (is ∙ ap (λ l. names_with l name) same.1)
+      | inl more ↦ (
+        one ∷ name ∷ [],
+        is ∙ ap (λ l. names_with l name) more
+            ∙ append_assoc before.failed (one ∷ []) (name ∷ []),
+        (1, omega arith, refl),
+      )
+    ]
 
 -- ---- refusals
 
@@ -270,16 +275,16 @@ pub script_missed : (settings : Settings) (before after : ShelfTold)
 script_missed settings before after h =
     (h.0, missed_one h.0 before.failed after.failed h.2, inl h.1)
 
-pub second_missed : (settings : Settings) (before after : ShelfTold) (middle : List (List ℕ))
+pub second_missed : (settings : Settings) (before after middle : ShelfTold)
     (script : ScriptText) → HasText before.files (script_text settings)
     (λ bytes. Spells bytes script)
-    → KeepsFile (script_file settings) false before.failed middle
-    → MissesSecond settings script middle after.failed
+    → KeepsFile (script_file settings) false before middle
+    → MissesSecond settings script middle.failed after.failed
     → ReadFailed (Ok settings) before after
 second_missed settings before after middle script spells keeps h =
     let second = h.0 in (
       second.0,
-      missed_after second.0 before.failed middle after.failed (script_file settings) keeps second.2,
+      missed_after second.0 before middle after.failed (script_file settings) keeps second.2,
       inr (second.1, λ files e. (script, spells files e, h.1)),
     )
 
@@ -299,11 +304,11 @@ module _ (settings : Settings) (name : List ℕ) (file_is : script_file settings
       GivesTest told (λ files. take script_bytes (files name)) (Misses file failed failed') r)
       (sym file_is) h)
 
-  pub file_kept : (unread : Bool) (failed failed' : List (List ℕ))
-      → KeepsFile (Some name) unread failed failed'
-      → KeepsFile (script_file settings) unread failed failed'
-  file_kept unread failed failed' h =
-      subst (λ (file : Option (List ℕ)). KeepsFile file unread failed failed') (sym file_is) h
+  pub file_kept : (unread : Bool) (before after : ShelfTold)
+      → KeepsFile (Some name) unread before after
+      → KeepsFile (script_file settings) unread before after
+  file_kept unread before after h =
+      subst (λ (file : Option (List ℕ)). KeepsFile file unread before after) (sym file_is) h
 
 -- what comes of some settings comes of the same
 pub comes_of_same : (settings other : Settings) → settings ≡ other → (before after : ShelfTold)

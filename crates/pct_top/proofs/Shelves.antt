@@ -1,6 +1,6 @@
 -- What the reads of a call leave of the shelf.
 use Rattle.std.proofs.Common.{◌≡◌, ℕ, List, [], ◌∷◌, inl, inr, Option, Some, None, Result, Ok}
-use Rattle.std.proofs.Common.{Err, Bool, true, false, refl, sym, ◌∙◌}
+use Rattle.std.proofs.Common.{Err, Bool, true, false, refl, sym, ap, ◌∙◌}
 use Rattle.std.specs.Prelude.{◌||◌}
 use Rattle.script_tree.specs.ScriptText.{ScriptText}
 use Rattle.script_tree.specs.Grammar.{Spells}
@@ -32,30 +32,34 @@ or_false true = refl
 or_false false = refl
 
 pub leaves_none : (taken : SettingsOrWord) (unread : Bool) (before after : ShelfTold)
-    → after.files ≡ before.files → unread ≡ false → after.failed ≡ before.failed
-    → LeavesShelf taken unread before after
-leaves_none taken unread before after files well same =
-    record { files = files; reads = []; made = tt; kept = same; failed = sym well }
+    → unread ≡ false → after ≡ before → LeavesShelf taken unread before after
+leaves_none taken unread before after well same = record {
+  files = ap (λ (s : ShelfTold). s.files) same;
+  reads = [];
+  made = tt;
+  kept = same;
+  failed = sym well;
+}
 
 module _ (asked : Settings) (unread : Bool) (before after : ShelfTold)
     (files : after.files ≡ before.files) where
   by_script : (file : Option (List ℕ)) → script_file asked ≡ file
-      → KeepsFile file unread before.failed after.failed
+      → KeepsFile file unread before after
       → LeavesShelf (Ok asked) unread before after
   by_script None is keeps =
-      leaves_none (Ok asked) unread before after files keeps.0 keeps.1
+      leaves_none (Ok asked) unread before after keeps.0 keeps.1
   by_script (Some name) is keeps =
       let read : ReadMade = record { name = name; failed = unread } in
       record {
         files = files;
         reads = read ∷ [];
         made = is;
-        kept = (after.failed, keeps, refl);
+        kept = (after, keeps, refl);
         failed = or_false unread;
       }
 
   -- the script was read, and no other file
-  pub leaves_script : KeepsFile (script_file asked) unread before.failed after.failed
+  pub leaves_script : KeepsFile (script_file asked) unread before after
       → LeavesShelf (Ok asked) unread before after
   leaves_script keeps = by_script (script_file asked) refl keeps
 
@@ -72,17 +76,17 @@ has_script (Certify file directive steps limit serve) name is none = cc
 has_script (Sweep file depth steps limit json serve) name is none = cc
 
 module _ (asked : Settings) (unread : Bool) (before after : ShelfTold)
-    (files : after.files ≡ before.files) (middle : List (List ℕ)) (script : ScriptText)
+    (files : after.files ≡ before.files) (middle : ShelfTold) (script : ScriptText)
     (spells : HasText before.files (script_text asked) (λ bytes. Spells bytes script)) where
   abbrev Fits : Type 0
   Fits = OrderFits script.names (order_given asked)
 
   by_both : (file : Option (List ℕ)) → script_file asked ≡ file
-      → KeepsFile file false before.failed middle
-      → KeepsSecond (second_file asked) Fits unread middle after.failed
+      → KeepsFile file false before middle
+      → KeepsSecond (second_file asked) Fits unread middle after
       → LeavesShelf (Ok asked) unread before after
   by_both None none keeps (inl same) =
-      leaves_none (Ok asked) unread before after files same.0 (same.1 ∙ keeps.1)
+      leaves_none (Ok asked) unread before after same.0 (same.1 ∙ keeps.1)
   by_both None none keeps (inr read) = absurd (has_script asked read.0 read.1 none)
   by_both (Some name) is keeps (inl same) =
       let first : ReadMade = record { name = name; failed = false } in
@@ -100,13 +104,13 @@ module _ (asked : Settings) (unread : Bool) (before after : ShelfTold)
         files = files;
         reads = first ∷ second ∷ [];
         made = (is, refl, read.1, λ told e. (script, spells told e, read.2));
-        kept = (middle, keeps, (after.failed, read.3, refl));
+        kept = (middle, keeps, (after, read.3, refl));
         failed = or_false unread;
       }
 
   -- the script was read, and then what the command reads
-  pub leaves_both : KeepsFile (script_file asked) false before.failed middle
-      → KeepsSecond (second_file asked) Fits unread middle after.failed
+  pub leaves_both : KeepsFile (script_file asked) false before middle
+      → KeepsSecond (second_file asked) Fits unread middle after
       → LeavesShelf (Ok asked) unread before after
   leaves_both keeps second = by_both (script_file asked) refl keeps second
 

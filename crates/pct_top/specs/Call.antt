@@ -4,7 +4,7 @@ use Rattle.std.specs.Prelude.{◌≡◌, ℕ, Bool, true, false, ◌⊎◌, List
 use Rattle.std.specs.Prelude.{Option, Some, None, Result, Ok, Err}
 use Rattle.std.specs.List.{Contains}
 use Rattle.pct_outside.specs.Counter.{Rose}
-use Rattle.pct_outside.specs.Piece.{IsAppended, IsPartAppended}
+use Rattle.pct_outside.specs.Puts.{IsPutWhole, IsPutInPart}
 use Rattle.script_tree.specs.ScriptText.{ScriptText}
 use Rattle.script_tree.specs.Grammar.{Spells}
 use Rattle.pct_top.specs.declared.refusal.Refusal.{Refusal}
@@ -90,7 +90,7 @@ pub record LeavesShelf (taken : SettingsOrWord) (unread : Bool) (before after : 
   pub files : after.files ≡ before.files
   pub reads : List ReadMade
   pub made : AreReads taken before.files reads
-  pub kept : KeepsReads reads before.failed after.failed
+  pub kept : KeepsReads reads before after
   pub failed : some_failed reads ≡ unread
 
 -- ---- the answer, before anything is said on the error stream
@@ -110,13 +110,13 @@ PrintsOne taken told has =
 -- the output was put whole, and nothing is to be said on the error stream
 abbrev pub PutsAll : StreamTold → StreamTold → Status → Printed → Type 0
 PutsAll before after status printed =
-    IsAppended printed.out before.written after.written
+    IsPutWhole printed.out before after
     × (status ≡ printed.status) × (printed.err ≡ [])
 
 -- a part of the output was put, and nothing was to be said on the error stream
 abbrev pub PutsPart : StreamTold → StreamTold → Printed → Type 0
 PutsPart before after printed =
-    (printed.err ≡ []) × IsPartAppended printed.out before.written after.written
+    (printed.err ≡ []) × IsPutInPart printed.out before after
 
 -- the output's fault shows
 abbrev pub IsRefusing : StreamTold → StreamTold → Type 0
@@ -126,9 +126,9 @@ IsRefusing before after = Rose before.faults after.faults
 abbrev pub PutsOutput : Printed → StreamTold → StreamTold → Result Status Refusal → Type 0
 PutsOutput printed before after (Ok status) = PutsAll before after status printed
 PutsOutput printed before after (Err Write) =
-    IsRefusing before after × IsPartAppended printed.out before.written after.written
+    IsRefusing before after × IsPutInPart printed.out before after
 PutsOutput printed before after (Err Memory) =
-    IsPartAppended printed.out before.written after.written
+    IsPutInPart printed.out before after
 PutsOutput printed before after (Err refusal) = ⊥
 
 -- where the words aren't taken, the answer says which, want of memory aside
@@ -194,7 +194,7 @@ RefusedWords (Err number) status = ⊥
 -- what is printed is on both streams
 abbrev pub PrintsAll : Outside → Outside → Status → Printed → Type 0
 PrintsAll found left status printed =
-    (status ≡ printed.status) × IsAppended printed.out found.output.written left.output.written
+    (status ≡ printed.status) × IsPutWhole printed.out found.output left.output
     × SaysLine printed.err found.errors left.errors
 
 -- By the status, how much of what may be printed is on the streams: all, nothing after a read that
@@ -202,9 +202,9 @@ PrintsAll found left status printed =
 abbrev pub Prints : Outside → Outside → Status → Printed → Type 0
 Prints found left statuses.ReadFault printed = left.output ≡ found.output
 Prints found left statuses.WriteFault printed =
-    IsPartAppended printed.out found.output.written left.output.written
+    IsPutInPart printed.out found.output left.output
 Prints found left statuses.NoMemory printed =
-    IsPartAppended printed.out found.output.written left.output.written
+    IsPutInPart printed.out found.output left.output
 Prints found left status printed = PrintsAll found left status printed
 
 -- Whatever *Output* may print for the words and the files, the call has printed it so.
@@ -251,10 +251,14 @@ abbrev pub is_read_fault : Status → Bool
 is_read_fault statuses.ReadFault = true
 is_read_fault status = false
 
--- the same, as if the shelf told these files
+-- the shelf, as if it told these files
+abbrev pub with_told : NamedFiles → ShelfTold → ShelfTold
+with_told files shelf = record shelf { files = Some files }
+
+-- the same of what is outside
 abbrev pub with_files : NamedFiles → Outside → Outside
 with_files files outside = record {
-  shelf = record { files = Some files; failed = outside.shelf.failed };
+  shelf = with_told files outside.shelf;
   output = outside.output;
   errors = outside.errors;
 }

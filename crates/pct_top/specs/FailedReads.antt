@@ -1,18 +1,11 @@
 -- Which names a call adds to those of the failed reads, over a shelf that keeps no others (this
 -- project).
-use Rattle.std.specs.Prelude.{◌≡◌, ◌++◌, ℕ, List, [], ◌∷◌, if◌then◌else◌}
+use Rattle.std.specs.Prelude.{◌≡◌, ℕ, List, true}
 use Rattle.pct_outside.specs.Reading.{names_with}
 use Rattle.pct_top.specs.declared.status.Status.{Status}
 use Rattle.pct_top.specs.declared.status.Status.TheVariants.{ReadFault}
 use Rattle.pct_top.specs.Outside.{Outside}
-use Rattle.pct_top.specs.Reads.{ReadMade}
 use Rattle.pct_top.specs.Call.{IsCall}
-
--- the names of the reads that failed, in their order
-abbrev pub failed_names : List ReadMade → List (List ℕ)
-failed_names [] = []
-failed_names (read ∷ reads) =
-    if read.failed then read.name ∷ failed_names reads else failed_names reads
 
 -- by the status: one name was added after a failed read, and else none
 abbrev pub AddsByStatus : Status → List (List ℕ) → List (List ℕ) → Type 0
@@ -24,6 +17,5 @@ AddsByStatus status names names' = names' ≡ names
 abbrev pub OneFailedRead : Type 0
 OneFailedRead =
     (words : List (List ℕ)) (found left : Outside) (status : Status)
-    (call : IsCall words found left status)
-    → (left.shelf).failed ≡ (found.shelf).failed ++ failed_names (call.shelf).reads
+    → IsCall words found left status → (found.shelf).keeps ≡ true
     → AddsByStatus status (found.shelf).failed (left.shelf).failed

@@ -1,10 +1,9 @@
 -- What is said on the error stream (this project).
 use Rattle.std.specs.Prelude.{ℕ, List, ◌⊎◌}
-use Rattle.pct_outside.specs.Piece.{IsAppended, IsPartAppended}
+use Rattle.pct_outside.specs.Puts.{IsPutWhole, IsPutInPart}
 use Rattle.pct_outside.specs.Told.{StreamTold, StreamFails}
 
 -- The line was said whole. It may be a prefix of it only where the stream fails.
 abbrev pub SaysLine : List ℕ → StreamTold → StreamTold → Type 0
 SaysLine line before after =
-    IsAppended line before.written after.written
-    ⊎ (IsPartAppended line before.written after.written × StreamFails before after)
+    IsPutWhole line before after ⊎ (IsPutInPart line before after × StreamFails before after)

@@ -30,13 +30,13 @@ fn over_file<R: Threads + Wait + Sync, H: Shelf, G: Gate>(
     shelf: &mut H,
     gate: &G,
 ) -> Result<CommandOutput, Refusal>
-    ensures comes { Comes (OfTaken (Ok (asked file.now job.now))) (H.files shelf.old)
+    ensures comes { Comes (OfTaken (Ok (asked file.now job.now))) (H.told shelf.old).files
         (ReadFailed (Ok (asked file.now job.now))
-        (record { files = H.files shelf.old; failed = H.failed shelf.old })
-        (record { files = H.files shelf.new; failed = H.failed shelf.new })) result }
+        (H.told shelf.old)
+        (H.told shelf.new)) result }
     ensures shelf { LeavesShelf (Ok (asked file.now job.now)) (is_missed result)
-        (record { files = H.files shelf.old; failed = H.failed shelf.old })
-        (record { files = H.files shelf.new; failed = H.failed shelf.new }) }
+        (H.told shelf.old)
+        (H.told shelf.new) }
 {
     let test = read_test(alloc, file, shelf)?;
     job.output(rt, alloc, &test, shelf, gate)
@@ -51,15 +51,15 @@ pub fn output_of<R: Threads + Wait + Sync, H: Shelf, G: Gate>(
     gate: &G,
 ) -> Result<CommandOutput, Refusal>
     requires { AreLawful settings }
-    ensures comes { Comes (OfTaken (Ok settings)) (H.files shelf.old)
+    ensures comes { Comes (OfTaken (Ok settings)) (H.told shelf.old).files
         (ReadFailed (Ok settings)
-        (record { files = H.files shelf.old; failed = H.failed shelf.old })
-        (record { files = H.files shelf.new; failed = H.failed shelf.new })) result }
+        (H.told shelf.old)
+        (H.told shelf.new)) result }
     ensures unread { script_file settings ≡ None → (files : NamedFiles)
         → GivesPrinted (OfTaken (Ok settings) files) result }
     ensures shelf { LeavesShelf (Ok settings) (is_missed result)
-        (record { files = H.files shelf.old; failed = H.failed shelf.old })
-        (record { files = H.files shelf.new; failed = H.failed shelf.new }) }
+        (H.told shelf.old)
+        (H.told shelf.new) }
 {
     match plan_of(settings) {
         Plan::Big { pieces, serve } => big_output(rt, alloc, pieces, serve, gate),

@@ -28,11 +28,11 @@ const DIRECTIVE_BYTES: u64 = 65_537;
 
 /// The script of a file, ready to be run.
 pub fn read_test<H: Shelf>(alloc: Global, file: &str, shelf: &mut H) -> Result<ReadyTest, Refusal>
-    ensures test { GivesTest (H.files shelf.old) (λ files. take script_bytes (files file.now))
-        (Misses (Some file.now) (H.failed shelf.old) (H.failed shelf.new)) result }
-    ensures keeps { KeepsFile (Some file.now) (is_missed result) (H.failed shelf.old)
-        (H.failed shelf.new) }
-    ensures files { H.files shelf.new ≡ H.files shelf.old }
+    ensures test { GivesTest (H.told shelf.old).files (λ files. take script_bytes (files file.now))
+        (Misses (Some file.now) (H.told shelf.old).failed (H.told shelf.new).failed) result }
+    ensures keeps { KeepsFile (Some file.now) (is_missed result) (H.told shelf.old)
+        (H.told shelf.new) }
+    ensures files { (H.told shelf.new).files ≡ (H.told shelf.old).files }
 {
     let bytes = shelf.read_up_to(file, READ_BYTES)?;
     let script = parse(alloc, &bytes)?;
@@ -56,11 +56,11 @@ pub fn read_told<H: Shelf>(
     names: &Names,
     shelf: &mut H,
 ) -> Result<TraceFile, Refusal>
-    ensures told { GivesTrace (H.files shelf.old) file.now names.now
-        (Misses (Some file.now) (H.failed shelf.old) (H.failed shelf.new)) result }
-    ensures keeps { KeepsFile (Some file.now) (is_missed result) (H.failed shelf.old)
-        (H.failed shelf.new) }
-    ensures files { H.files shelf.new ≡ H.files shelf.old }
+    ensures told { GivesTrace (H.told shelf.old).files file.now names.now
+        (Misses (Some file.now) (H.told shelf.old).failed (H.told shelf.new).failed) result }
+    ensures keeps { KeepsFile (Some file.now) (is_missed result) (H.told shelf.old)
+        (H.told shelf.new) }
+    ensures files { (H.told shelf.new).files ≡ (H.told shelf.old).files }
 {
     let bytes = shelf.read_up_to(file, TRACE_BYTES)?;
     Ok(read_trace(alloc, &bytes, names)?)
@@ -73,11 +73,11 @@ pub fn read_directed<H: Shelf>(
     names: &Names,
     shelf: &mut H,
 ) -> Result<Directive, Refusal>
-    ensures told { GivesDirective (H.files shelf.old) file.now names.now
-        (Misses (Some file.now) (H.failed shelf.old) (H.failed shelf.new)) result }
-    ensures keeps { KeepsFile (Some file.now) (is_missed result) (H.failed shelf.old)
-        (H.failed shelf.new) }
-    ensures files { H.files shelf.new ≡ H.files shelf.old }
+    ensures told { GivesDirective (H.told shelf.old).files file.now names.now
+        (Misses (Some file.now) (H.told shelf.old).failed (H.told shelf.new).failed) result }
+    ensures keeps { KeepsFile (Some file.now) (is_missed result) (H.told shelf.old)
+        (H.told shelf.new) }
+    ensures files { (H.told shelf.new).files ≡ (H.told shelf.old).files }
 {
     let bytes = shelf.read_up_to(file, DIRECTIVE_BYTES)?;
     Ok(read_directive(alloc, &bytes, names)?)

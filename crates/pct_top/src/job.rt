@@ -48,14 +48,14 @@ impl Job {
         ensures comes { (file : List ℕ) → Comes
             (λ files. OfCommand (asked file self.now) files (plain_script test.now.script)
             test.now.deal)
-            (H.files shelf.old)
+            (H.told shelf.old).files
             (MissesSecond (asked file self.now) (plain_script test.now.script)
-            (H.failed shelf.old) (H.failed shelf.new))
+            (H.told shelf.old).failed (H.told shelf.new).failed)
             result }
         ensures keeps { (file : List ℕ) → KeepsSecond (second_file (asked file self.now))
             (OrderFits (plain_script test.now.script).names (order_given (asked file self.now)))
-            (is_missed result) (H.failed shelf.old) (H.failed shelf.new) }
-        ensures files { H.files shelf.new ≡ H.files shelf.old }
+            (is_missed result) (H.told shelf.old) (H.told shelf.new) }
+        ensures files { (H.told shelf.new).files ≡ (H.told shelf.old).files }
     {
         match self {
             Job::Ordered(run) => run.report_on(rt, alloc, test, gate),

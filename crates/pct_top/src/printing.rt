@@ -7,13 +7,13 @@ ghost use Rattle.pct_top.specs.Refusing as refusing;
 ghost use Rattle.pct_top.specs.Refusing.{refusal_line};
 ghost use Rattle.pct_top.specs.Saying.{SaysLine};
 ghost use Rattle.pct_outside.specs.Counter.{Rose};
-ghost use Rattle.pct_outside.specs.Piece.{IsAppended, IsPartAppended};
+ghost use Rattle.pct_outside.specs.Puts.{IsPut, IsPartWritten, IsPutWhole, IsPutInPart};
 
 use crate::refusal::Refusal;
 use arrayvec::ArrayString;
 use directive::DirectiveFault;
 use itoa::Buffer;
-use pct_outside::{Sink, SinkError};
+use pct_outside::{Sink, SinkError, put_whole};
 use script_parse::ScriptFault;
 use trace_text::TraceFault;
 
@@ -30,13 +30,15 @@ fn line_length(text: &[u8]) -> usize
 }
 
 /// Puts a text on a sink, one line at a time. Nothing is put after a put that was refused.
-pub fn put_lines<O: Sink>(out: &mut O, text: &[u8]) -> Result<(), SinkError>
-    ensures whole { OnOk result (IsAppended text.now (O.written out.old) (O.written out.new)) }
-    ensures part { OnErr result (IsPartAppended text.now (O.written out.old) (O.written out.new)) }
-    ensures failed { result ≡ Err SinkError.Failed → Rose (O.faults out.old) (O.faults out.new) }
-    ensures short { result ≡ Err SinkError.NoMemory → Rose (O.shorts out.old) (O.shorts out.new) }
-    ensures faults { O.faults out.old ≤ O.faults out.new }
-    ensures shorts { O.shorts out.old ≤ O.shorts out.new }
+fn put_lines<O: Sink>(out: &mut O, text: &[u8]) -> Result<(), SinkError>
+    ensures whole { OnOk result (IsPut text.now (O.told out.old) (O.told out.new)) }
+    ensures part { OnErr result (IsPartWritten text.now (O.told out.old) (O.told out.new)) }
+    ensures failed { result ≡ Err SinkError.Failed
+        → Rose (O.told out.old).faults (O.told out.new).faults }
+    ensures short { result ≡ Err SinkError.NoMemory
+        → Rose (O.told out.old).shorts (O.told out.new).shorts }
+    ensures faults { (O.told out.old).faults ≤ (O.told out.new).faults }
+    ensures shorts { (O.told out.old).shorts ≤ (O.told out.new).shorts }
 {
     let mut rest = text;
     while !rest.is_empty() {
@@ -47,6 +49,21 @@ pub fn put_lines<O: Sink>(out: &mut O, text: &[u8]) -> Result<(), SinkError>
         }
     }
     Ok(())
+}
+
+/// Puts a text as `put_lines` does, and writes what the sink gathers of it.
+pub fn put_text<O: Sink>(out: &mut O, text: &[u8]) -> Result<(), SinkError>
+    ensures whole { OnOk result (IsPutWhole text.now (O.told out.old) (O.told out.new)) }
+    ensures part { OnErr result (IsPutInPart text.now (O.told out.old) (O.told out.new)) }
+    ensures failed { result ≡ Err SinkError.Failed
+        → Rose (O.told out.old).faults (O.told out.new).faults }
+    ensures short { result ≡ Err SinkError.NoMemory
+        → Rose (O.told out.old).shorts (O.told out.new).shorts }
+{
+    match put_lines(out, text) {
+        Ok(()) => out.finish(),
+        Err(error) => Err(error),
+    }
 }
 
 /// A line of the error stream, which takes no memory.
@@ -168,17 +185,9 @@ fn line_of(refusal: &Refusal) -> Line
 /// else.
 pub fn say<E: Sink>(err: &mut E, refusal: &Refusal)
     ensures { SaysLine (refusal_line refusal.now)
-        (record {
-          written = E.written err.old;
-          faults = E.faults err.old;
-          shorts = E.shorts err.old;
-        })
-        (record {
-          written = E.written err.new;
-          faults = E.faults err.new;
-          shorts = E.shorts err.new;
-        }) }
+        (E.told err.old)
+        (E.told err.new) }
 {
     let line = line_of(refusal);
-    let _ = err.put(line.as_bytes());
+    let _ = put_whole(err, line.as_bytes());
 }

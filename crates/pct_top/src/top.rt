@@ -1,17 +1,17 @@
 //! The top call: from the program's words to what it writes. It knows no command.
 
-ghost use Rattle.std.specs.Prelude.{Ok, Some};
+ghost use Rattle.std.specs.Prelude.{Ok};
 ghost use Rattle.pct_outside.specs.Reading.{texts_of};
 ghost use Rattle.pct_top.specs.Settings.{settings, AreLawful};
 ghost use Rattle.pct_top.specs.CommandOutput.{printed_of};
 ghost use Rattle.pct_top.specs.Printed.{NamedFiles};
 ghost use Rattle.pct_top.specs.Reads.{is_missed};
 ghost use Rattle.pct_top.specs.Call.{PutsOutput, RefusedFirst, AnswersCall, LeavesShelf, ReadsNone};
-ghost use Rattle.pct_top.specs.Call.{IsCall};
+ghost use Rattle.pct_top.specs.Call.{IsCall, with_told};
 
 use crate::command_output::CommandOutput;
 use crate::dispatch::output_of;
-use crate::printing::{put_lines, say};
+use crate::printing::{put_text, say};
 use crate::refusal::Refusal;
 use crate::settings::Settings;
 use crate::status::Status;
@@ -23,19 +23,11 @@ use std::thread::Threads;
 
 fn put_output<O: Sink>(output: &CommandOutput, out: &mut O) -> Result<Status, Refusal>
     ensures { PutsOutput (printed_of output.now)
-        (record {
-          written = O.written out.old;
-          faults = O.faults out.old;
-          shorts = O.shorts out.old;
-        })
-        (record {
-          written = O.written out.new;
-          faults = O.faults out.new;
-          shorts = O.shorts out.new;
-        })
+        (O.told out.old)
+        (O.told out.new)
         result }
 {
-    put_lines(out, output.text.as_slice())?;
+    put_text(out, output.text.as_slice())?;
     Ok(output.status())
 }
 
@@ -50,37 +42,21 @@ fn print_settings<R: Threads + Wait + Sync, H: Shelf, O: Sink, G: Gate>(
 ) -> Result<Status, Refusal>
     requires { AreLawful settings }
     ensures answers { AnswersCall (Ok settings)
-        (record { files = H.files shelf.old; failed = H.failed shelf.old })
-        (record { files = H.files shelf.new; failed = H.failed shelf.new })
-        (record {
-          written = O.written out.old;
-          faults = O.faults out.old;
-          shorts = O.shorts out.old;
-        })
-        (record {
-          written = O.written out.new;
-          faults = O.faults out.new;
-          shorts = O.shorts out.new;
-        })
+        (H.told shelf.old)
+        (H.told shelf.new)
+        (O.told out.old)
+        (O.told out.new)
         result }
     ensures unread { ReadsNone (Ok settings) → (files : NamedFiles)
         → AnswersCall (Ok settings)
-        (record { files = Some files; failed = H.failed shelf.old })
-        (record { files = H.files shelf.new; failed = H.failed shelf.new })
-        (record {
-          written = O.written out.old;
-          faults = O.faults out.old;
-          shorts = O.shorts out.old;
-        })
-        (record {
-          written = O.written out.new;
-          faults = O.faults out.new;
-          shorts = O.shorts out.new;
-        })
+        (with_told files (H.told shelf.old))
+        (H.told shelf.new)
+        (O.told out.old)
+        (O.told out.new)
         result }
     ensures shelf { LeavesShelf (Ok settings) (is_missed result)
-        (record { files = H.files shelf.old; failed = H.failed shelf.old })
-        (record { files = H.files shelf.new; failed = H.failed shelf.new }) }
+        (H.told shelf.old)
+        (H.told shelf.new) }
 {
     let output = output_of(rt, alloc, settings, shelf, gate)?;
     put_output(&output, out)
@@ -96,37 +72,21 @@ fn answer<R: Threads + Wait + Sync, H: Shelf, O: Sink, G: Gate>(
     gate: &G,
 ) -> Result<Status, Refusal>
     ensures answers { AnswersCall (settings (texts_of words.now))
-        (record { files = H.files shelf.old; failed = H.failed shelf.old })
-        (record { files = H.files shelf.new; failed = H.failed shelf.new })
-        (record {
-          written = O.written out.old;
-          faults = O.faults out.old;
-          shorts = O.shorts out.old;
-        })
-        (record {
-          written = O.written out.new;
-          faults = O.faults out.new;
-          shorts = O.shorts out.new;
-        })
+        (H.told shelf.old)
+        (H.told shelf.new)
+        (O.told out.old)
+        (O.told out.new)
         result }
     ensures unread { ReadsNone (settings (texts_of words.now)) → (files : NamedFiles)
         → AnswersCall (settings (texts_of words.now))
-        (record { files = Some files; failed = H.failed shelf.old })
-        (record { files = H.files shelf.new; failed = H.failed shelf.new })
-        (record {
-          written = O.written out.old;
-          faults = O.faults out.old;
-          shorts = O.shorts out.old;
-        })
-        (record {
-          written = O.written out.new;
-          faults = O.faults out.new;
-          shorts = O.shorts out.new;
-        })
+        (with_told files (H.told shelf.old))
+        (H.told shelf.new)
+        (O.told out.old)
+        (O.told out.new)
         result }
     ensures shelf { LeavesShelf (settings (texts_of words.now)) (is_missed result)
-        (record { files = H.files shelf.old; failed = H.failed shelf.old })
-        (record { files = H.files shelf.new; failed = H.failed shelf.new }) }
+        (H.told shelf.old)
+        (H.told shelf.new) }
     ensures refused { RefusedFirst (settings (texts_of words.now)) result }
 {
     match read_words(alloc, words) {
@@ -148,30 +108,14 @@ pub fn pct<R: Threads + Wait + Sync, H: Shelf, O: Sink, E: Sink, G: Gate>(
 ) -> Status
     ensures { IsCall (texts_of words.now)
         (record {
-          shelf = record { files = H.files shelf.old; failed = H.failed shelf.old };
-          output = record {
-            written = O.written out.old;
-            faults = O.faults out.old;
-            shorts = O.shorts out.old;
-          };
-          errors = record {
-            written = E.written err.old;
-            faults = E.faults err.old;
-            shorts = E.shorts err.old;
-          };
+          shelf = H.told shelf.old;
+          output = O.told out.old;
+          errors = E.told err.old;
         })
         (record {
-          shelf = record { files = H.files shelf.new; failed = H.failed shelf.new };
-          output = record {
-            written = O.written out.new;
-            faults = O.faults out.new;
-            shorts = O.shorts out.new;
-          };
-          errors = record {
-            written = E.written err.new;
-            faults = E.faults err.new;
-            shorts = E.shorts err.new;
-          };
+          shelf = H.told shelf.new;
+          output = O.told out.new;
+          errors = E.told err.new;
         }) result }
 {
     match answer(rt, alloc, words, shelf, out, gate) {

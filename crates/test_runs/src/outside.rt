@@ -1,7 +1,7 @@
 //! Files, streams and gates.
 use pct_outside::{
     Gate, HostShelf, HostSink, MemoryShelf, MemorySink, OpenGate, PairGate, Shelf, ShelfError,
-    Sink, SinkError, SureShelf, SureSink,
+    Sink, SinkError, SureShelf, SureSink, put_whole,
 };
 use std::alloc::AllocError as NoMemory;
 use std::process::Abort;
@@ -78,12 +78,14 @@ fn memory_sinks_take(rt: HostRuntime) -> Result<(), Fail> {
     expect_put(&rt, &mut sink, "ab", Ok(()));
     expect_put(&rt, &mut sink, "cd", Err(SinkError::Failed));
     expect_put(&rt, &mut sink, "ef", Ok(()));
+    assert_eq!(rt; sink.finish(), Ok(()));
     assert_eq!(rt; sink.bytes(), b"abef".as_slice());
     drop(sink);
 
     let mut sure = SureSink::new(rt.alloc());
     expect_put(&rt, &mut sure, "ab", Ok(()));
     expect_put(&rt, &mut sure, "cd", Ok(()));
+    assert_eq!(rt; sure.finish(), Ok(()));
     assert_eq!(rt; sure.bytes(), b"abcd".as_slice());
     drop(sure);
     Ok(())
@@ -113,8 +115,14 @@ fn host_shelf_reads(rt: HostRuntime) -> Result<(), Fail> {
 
 #[test]
 fn host_streams_take(rt: HostRuntime) {
-    expect_put(&rt, &mut HostSink::output(rt.stdout()), "", Ok(()));
-    expect_put(&rt, &mut HostSink::errors(rt.stderr()), "", Ok(()));
+    assert_eq!(rt;
+        put_whole(&mut HostSink::output(rt.alloc(), rt.stdout()), b""),
+        Ok(())
+    );
+    assert_eq!(rt;
+        put_whole(&mut HostSink::errors(rt.alloc(), rt.stderr()), b""),
+        Ok(())
+    );
     OpenGate::new().arrive(0, 0);
 }
 

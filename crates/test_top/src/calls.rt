@@ -1,6 +1,8 @@
 // Calls by words and files, and what they give.
+ghost use Rattle.pct_top.specs.FailedReads.{AddsByStatus};
+
 use pct_outside::{Gate, MemoryShelf, MemorySink, OpenGate};
-use pct_top::{Status, pct};
+use pct_top::{Status, one_failed_read, pct};
 use std::alloc::{AllocError as NoMemory, Global};
 use std::process::Abort;
 use std::sync::Wait;
@@ -122,6 +124,23 @@ pub(crate) fn words_of(alloc: Global, line: &str) -> Result<Vec<String>, NoMemor
     Ok(words)
 }
 
+/// A call over a shelf in memory, which keeps the names of failed reads alone: one is added where the
+/// status is ReadFault, and none else.
+fn called<R: Threads + Wait + Sync, G: Gate>(
+    rt: &R,
+    alloc: Global,
+    words: &[String],
+    shelf: &mut MemoryShelf,
+    out: &mut MemorySink,
+    err: &mut MemorySink,
+    gate: &G,
+) -> Status
+    ensures { AddsByStatus result shelf.old.failed shelf.new.failed }
+{
+    one_failed_read();
+    pct(rt, alloc, words, shelf, out, err, gate)
+}
+
 /// Calls with the adders in the file `s.pct` and a trace in the file `t.txt`, and compares what is
 /// given.
 pub(crate) fn expect_call<R: Abort + Threads + Wait + Sync>(
@@ -152,7 +171,7 @@ pub(crate) fn expect_gated<R: Abort + Threads + Wait + Sync, G: Gate>(
     let mut err = MemorySink::new(alloc, vec![in alloc; fails.err]?);
     let words = words_of(alloc, line)?;
     let words = words.as_slice();
-    let status = pct(rt, alloc, words, &mut shelf, &mut out, &mut err, gate);
+    let status = called(rt, alloc, words, &mut shelf, &mut out, &mut err, gate);
     assert_eq!(rt; status, want.status, "{line}");
     assert_eq!(rt; out.bytes(), want.out.as_bytes(), "{line}");
     assert_eq!(rt; err.bytes(), want.err.as_bytes(), "{line}");

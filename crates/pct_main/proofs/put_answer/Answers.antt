@@ -1,6 +1,6 @@
 use Rattle.std.proofs.Common.{◌≡◌, ℕ, List, Err, refl, sym, subst, ap}
 use Rattle.pct_outside.specs.Counter.{Rose}
-use Rattle.pct_outside.specs.Piece.{IsPartAppended}
+use Rattle.pct_outside.specs.Puts.{IsPutInPart}
 use Rattle.pct_outside.specs.declared.sinks.SinkError.{SinkError}
 use Rattle.pct_outside.specs.declared.sinks.SinkError.TheVariants.{Failed, NoMemory}
 use Rattle.pct_top.specs.declared.refusal.Refusal.{Refusal}
@@ -12,7 +12,7 @@ use Rattle.pct_main.specs.Own.{IsPut}
 use Rattle.pct_main.proofs.put_answer.Goals as goal
 
 module _ (text : List ℕ) (out out' err err' : StreamTold)
-    (part : IsPartAppended text out.written out'.written) where
+    (part : IsPutInPart text out out') where
   abbrev Is : Refusal → Type 0
   Is refusal = SaysLine (refusal_line refusal) err err'
       → IsPut text out out' err err' (status_of_refusal refusal)
@@ -33,28 +33,12 @@ module _ (text : List ℕ) (out out' err err' : StreamTold)
 
 pub returns-in-Err : goal.returns-in-Err
 returns-in-Err g c =
-    let out : StreamTold = record {
-      written = g.O.Sink.written c.args.out.now;
-      faults = g.O.Sink.faults c.args.out.now;
-      shorts = g.O.Sink.shorts c.args.out.now;
-    } in
-    let out' : StreamTold = record {
-      written = g.O.Sink.written c.put.new.self;
-      faults = g.O.Sink.faults c.put.new.self;
-      shorts = g.O.Sink.shorts c.put.new.self;
-    } in
-    let err : StreamTold = record {
-      written = g.E.Sink.written c.args.err.now;
-      faults = g.E.Sink.faults c.args.err.now;
-      shorts = g.E.Sink.shorts c.args.err.now;
-    } in
-    let err' : StreamTold = record {
-      written = g.E.Sink.written c.refuse.new.err;
-      faults = g.E.Sink.faults c.refuse.new.err;
-      shorts = g.E.Sink.shorts c.refuse.new.err;
-    } in
+    let out : StreamTold = g.O.Sink.told c.args.out.now in
+    let out' : StreamTold = g.O.Sink.told c.put_whole.new.sink in
+    let err : StreamTold = g.E.Sink.told c.args.err.now in
+    let err' : StreamTold = g.E.Sink.told c.refuse.new.err in
     refused c.args.text.now out out' err err'
-    (subst (λ piece. IsPartAppended piece out.written out'.written) c.as_bytes.ensures.value
+    (subst (λ piece. IsPutInPart piece out out') c.as_bytes.ensures.value
     c.in-Err.ensures.part) c.in-Err.error c.from.result c.refuse.result c.from.ensures
     (λ failed. c.in-Err.ensures.failed (ap Err failed))
     (λ short. c.in-Err.ensures.short (ap Err short)) c.refuse.ensures.status

@@ -188,11 +188,11 @@ impl CertifyJob {
         ensures comes { Comes
             (λ files. OfCertify (take directive_bytes (files directive.now)) self.now.steps
             self.now.limit (plain_script test.now.script) test.now.deal)
-            (H.files shelf.old)
-            (Misses (Some directive.now) (H.failed shelf.old) (H.failed shelf.new)) result }
-        ensures keeps { KeepsFile (Some directive.now) (is_missed result) (H.failed shelf.old)
-            (H.failed shelf.new) }
-        ensures files { H.files shelf.new ≡ H.files shelf.old }
+            (H.told shelf.old).files
+            (Misses (Some directive.now) (H.told shelf.old).failed (H.told shelf.new).failed) result }
+        ensures keeps { KeepsFile (Some directive.now) (is_missed result) (H.told shelf.old)
+            (H.told shelf.new) }
+        ensures files { (H.told shelf.new).files ≡ (H.told shelf.old).files }
     {
         let plan = read_directed(alloc, directive, test.script.names(), shelf)?;
         Ok(self.certificate_of(rt, alloc, test, &plan, gate)?)

@@ -133,13 +133,13 @@ impl ExposeJob {
             (λ files. OfExpose (take directive_bytes (files directive.now)) self.now.order
             self.now.word self.now.steps self.now.limit (plain_script test.now.script)
             test.now.deal)
-            (H.files shelf.old)
-            (Misses (Some directive.now) (H.failed shelf.old) (H.failed shelf.new)
+            (H.told shelf.old).files
+            (Misses (Some directive.now) (H.told shelf.old).failed (H.told shelf.new).failed
             × OrderFits (plain_script test.now.script).names (Some self.now.order)) result }
         ensures keeps { KeepsSecond (Some directive.now)
             (OrderFits (plain_script test.now.script).names (Some self.now.order))
-            (is_missed result) (H.failed shelf.old) (H.failed shelf.new) }
-        ensures files { H.files shelf.new ≡ H.files shelf.old }
+            (is_missed result) (H.told shelf.old) (H.told shelf.new) }
+        ensures files { (H.told shelf.new).files ≡ (H.told shelf.old).files }
     {
         let names = test.script.names();
         let order = match order_given(alloc, names, self.order.as_slice(), self.word) {

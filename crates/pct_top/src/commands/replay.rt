@@ -120,11 +120,11 @@ pub fn reply_to_file<R: Threads + Wait + Sync, H: Shelf, G: Gate>(
     ensures comes { Comes
         (λ files.
         OfReplay (take trace_bytes (files trace.now)) (plain_script test.now.script) test.now.deal)
-        (H.files shelf.old)
-        (Misses (Some trace.now) (H.failed shelf.old) (H.failed shelf.new)) result }
-    ensures keeps { KeepsFile (Some trace.now) (is_missed result) (H.failed shelf.old)
-        (H.failed shelf.new) }
-    ensures files { H.files shelf.new ≡ H.files shelf.old }
+        (H.told shelf.old).files
+        (Misses (Some trace.now) (H.told shelf.old).failed (H.told shelf.new).failed) result }
+    ensures keeps { KeepsFile (Some trace.now) (is_missed result) (H.told shelf.old)
+        (H.told shelf.new) }
+    ensures files { (H.told shelf.new).files ≡ (H.told shelf.old).files }
 {
     let told = read_told(alloc, trace, test.script.names(), shelf)?;
     Ok(reply_to(rt, alloc, test, &told, gate)?)

@@ -29,7 +29,7 @@ returns-in-Big-clause-unread g c =
 pub returns-in-Big-clause-shelf : goal.returns-in-Big-clause-shelf
 returns-in-Big-clause-shelf g c =
     let pieces = c.in-Big.pieces in
-    leaves_none (Ok c.args.settings) _ _ _ refl
+    leaves_none (Ok c.args.settings) _ _ _
     (given_is_read (OfScript (layout (large_script pieces)) (OfBig pieces)) c.big_output.result
     c.big_output.ensures) refl
 
@@ -39,14 +39,8 @@ is_some e = cc
 pub returns-in-OfFile-clause-comes : goal.returns-in-OfFile-clause-comes
 returns-in-OfFile-clause-comes g c =
     let plan = c.in-OfFile in
-    let before : ShelfTold = record {
-      files = g.H.Shelf.files c.args.shelf.now;
-      failed = g.H.Shelf.failed c.args.shelf.now;
-    } in
-    let after : ShelfTold = record {
-      files = g.H.Shelf.files c.over_file.new.shelf;
-      failed = g.H.Shelf.failed c.over_file.new.shelf;
-    } in
+    let before : ShelfTold = g.H.Shelf.told c.args.shelf.now in
+    let after : ShelfTold = g.H.Shelf.told c.over_file.new.shelf in
     comes_of_same c.args.settings (asked c.as_str.result.now plan.job)
     (c.plan_of.ensures ∙ ap asked_by plan.is
     ∙ ap (λ file. asked file plan.job) (sym c.as_str.ensures))
@@ -62,14 +56,8 @@ returns-in-OfFile-clause-unread g c = λ none files.
 pub returns-in-OfFile-clause-shelf : goal.returns-in-OfFile-clause-shelf
 returns-in-OfFile-clause-shelf g c =
     let plan = c.in-OfFile in
-    let before : ShelfTold = record {
-      files = g.H.Shelf.files c.args.shelf.now;
-      failed = g.H.Shelf.failed c.args.shelf.now;
-    } in
-    let after : ShelfTold = record {
-      files = g.H.Shelf.files c.over_file.new.shelf;
-      failed = g.H.Shelf.failed c.over_file.new.shelf;
-    } in
+    let before : ShelfTold = g.H.Shelf.told c.args.shelf.now in
+    let after : ShelfTold = g.H.Shelf.told c.over_file.new.shelf in
     subst (λ (s : Settings). LeavesShelf (Ok s) (is_missed c.over_file.result) before after)
     (sym (c.plan_of.ensures ∙ ap asked_by plan.is
     ∙ ap (λ file. asked file plan.job) (sym c.as_str.ensures)))

@@ -20,14 +20,8 @@ returns-in_err-test-clause-comes g c =
     let settings = asked name c.args.job.now in
     let file = asked_file name c.args.job.now in
     let text = asked_text name c.args.job.now in
-    let before : ShelfTold = record {
-      files = g.H.Shelf.files c.args.shelf.now;
-      failed = g.H.Shelf.failed c.args.shelf.now;
-    } in
-    let after : ShelfTold = record {
-      files = g.H.Shelf.files c.read_test.new.shelf;
-      failed = g.H.Shelf.failed c.read_test.new.shelf;
-    } in
+    let before : ShelfTold = g.H.Shelf.told c.args.shelf.now in
+    let after : ShelfTold = g.H.Shelf.told c.read_test.new.shelf in
     let refusal = c.in_err-test.field-0.0 in
     let p = err_from_is_err_and c.from_residual.result c.from_residual.ensures.1 in
     rw (p.1, p.2) (comes_untested before.files (script_text settings) (OfCommand settings)
@@ -45,22 +39,16 @@ returns-clause-comes g c =
     let text = asked_text name c.args.job.now in
     let test = c.in_ok-test.test in
     let script = plain_script test.script in
-    let before : ShelfTold = record {
-      files = g.H.Shelf.files c.args.shelf.now;
-      failed = g.H.Shelf.failed c.args.shelf.now;
-    } in
-    let middle = g.H.Shelf.failed c.read_test.new.shelf in
-    let after : ShelfTold = record {
-      files = g.H.Shelf.files c.output.new.shelf;
-      failed = g.H.Shelf.failed c.output.new.shelf;
-    } in
-    let missed : Type 0 = MissesSecond settings script middle after.failed in
-    let spells = file_gives settings name file text before.files before.failed middle (Ok test)
+    let before : ShelfTold = g.H.Shelf.told c.args.shelf.now in
+    let middle : ShelfTold = g.H.Shelf.told c.read_test.new.shelf in
+    let after : ShelfTold = g.H.Shelf.told c.output.new.shelf in
+    let missed : Type 0 = MissesSecond settings script middle.failed after.failed in
+    let spells = file_gives settings name file text before.files before.failed middle.failed (Ok test)
     c.in_ok-test.ensures.test in
     comes_tested before.files (script_text settings) (OfCommand settings)
     (ReadFailed (Ok settings) before after) test spells missed
     (second_missed settings before after middle script spells
-    (file_kept settings name file false before.failed middle c.in_ok-test.ensures.keeps))
+    (file_kept settings name file false before middle c.in_ok-test.ensures.keeps))
     c.output.result
     (subst (λ told. Comes (λ files. OfCommand settings files script test.deal) told missed
     c.output.result) c.in_ok-test.ensures.files (c.output.ensures.comes name))
@@ -71,19 +59,13 @@ returns-in_err-test-clause-shelf g c =
     let settings = asked name c.args.job.now in
     let file = asked_file name c.args.job.now in
     let text = asked_text name c.args.job.now in
-    let before : ShelfTold = record {
-      files = g.H.Shelf.files c.args.shelf.now;
-      failed = g.H.Shelf.failed c.args.shelf.now;
-    } in
-    let after : ShelfTold = record {
-      files = g.H.Shelf.files c.read_test.new.shelf;
-      failed = g.H.Shelf.failed c.read_test.new.shelf;
-    } in
+    let before : ShelfTold = g.H.Shelf.told c.args.shelf.now in
+    let after : ShelfTold = g.H.Shelf.told c.read_test.new.shelf in
     let refusal = c.in_err-test.field-0.0 in
     let p = err_from_is_err_and c.from_residual.result c.from_residual.ensures.1 in
     rw (p.1, p.2) (leaves_script settings (is_read refusal) before after
     c.in_err-test.ensures.files
-    (file_kept settings name file (is_read refusal) before.failed after.failed
+    (file_kept settings name file (is_read refusal) before after
     c.in_err-test.ensures.keeps))
 
 pub returns-clause-shelf : goal.returns-clause-shelf
@@ -94,18 +76,12 @@ returns-clause-shelf g c =
     let text = asked_text name c.args.job.now in
     let test = c.in_ok-test.test in
     let script = plain_script test.script in
-    let before : ShelfTold = record {
-      files = g.H.Shelf.files c.args.shelf.now;
-      failed = g.H.Shelf.failed c.args.shelf.now;
-    } in
-    let middle = g.H.Shelf.failed c.read_test.new.shelf in
-    let after : ShelfTold = record {
-      files = g.H.Shelf.files c.output.new.shelf;
-      failed = g.H.Shelf.failed c.output.new.shelf;
-    } in
+    let before : ShelfTold = g.H.Shelf.told c.args.shelf.now in
+    let middle : ShelfTold = g.H.Shelf.told c.read_test.new.shelf in
+    let after : ShelfTold = g.H.Shelf.told c.output.new.shelf in
     leaves_both settings (is_missed c.output.result) before after
     (c.output.ensures.files ∙ c.in_ok-test.ensures.files) middle script
-    (file_gives settings name file text before.files before.failed middle (Ok test)
+    (file_gives settings name file text before.files before.failed middle.failed (Ok test)
     c.in_ok-test.ensures.test)
-    (file_kept settings name file false before.failed middle c.in_ok-test.ensures.keeps)
+    (file_kept settings name file false before middle c.in_ok-test.ensures.keeps)
     (c.output.ensures.keeps name)

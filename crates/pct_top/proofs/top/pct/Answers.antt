@@ -7,36 +7,14 @@ use Rattle.pct_top.proofs.top.pct.Goals as goal
 pub returns-in-Ok : goal.returns-in-Ok
 returns-in-Ok g c =
     let found : Outside = record {
-      shelf = record {
-        files = g.H.Shelf.files c.args.shelf.now;
-        failed = g.H.Shelf.failed c.args.shelf.now;
-      };
-      output = record {
-        written = g.O.Sink.written c.args.out.now;
-        faults = g.O.Sink.faults c.args.out.now;
-        shorts = g.O.Sink.shorts c.args.out.now;
-      };
-      errors = record {
-        written = g.E.Sink.written c.args.err.now;
-        faults = g.E.Sink.faults c.args.err.now;
-        shorts = g.E.Sink.shorts c.args.err.now;
-      };
+      shelf = g.H.Shelf.told c.args.shelf.now;
+      output = g.O.Sink.told c.args.out.now;
+      errors = g.E.Sink.told c.args.err.now;
     } in
     let left : Outside = record {
-      shelf = record {
-        files = g.H.Shelf.files c.answer.new.shelf;
-        failed = g.H.Shelf.failed c.answer.new.shelf;
-      };
-      output = record {
-        written = g.O.Sink.written c.answer.new.out;
-        faults = g.O.Sink.faults c.answer.new.out;
-        shorts = g.O.Sink.shorts c.answer.new.out;
-      };
-      errors = record {
-        written = g.E.Sink.written c.args.err.now;
-        faults = g.E.Sink.faults c.args.err.now;
-        shorts = g.E.Sink.shorts c.args.err.now;
-      };
+      shelf = g.H.Shelf.told c.answer.new.shelf;
+      output = g.O.Sink.told c.answer.new.out;
+      errors = g.E.Sink.told c.args.err.now;
     } in
     call_ran (texts_of c.args.words.now) found left c.in-Ok.status refl
     (c.in-Ok.ensures.answers, c.in-Ok.ensures.unread, c.in-Ok.ensures.shelf)
@@ -45,36 +23,14 @@ returns-in-Ok g c =
 pub returns-in-Err : goal.returns-in-Err
 returns-in-Err g c =
     let found : Outside = record {
-      shelf = record {
-        files = g.H.Shelf.files c.args.shelf.now;
-        failed = g.H.Shelf.failed c.args.shelf.now;
-      };
-      output = record {
-        written = g.O.Sink.written c.args.out.now;
-        faults = g.O.Sink.faults c.args.out.now;
-        shorts = g.O.Sink.shorts c.args.out.now;
-      };
-      errors = record {
-        written = g.E.Sink.written c.args.err.now;
-        faults = g.E.Sink.faults c.args.err.now;
-        shorts = g.E.Sink.shorts c.args.err.now;
-      };
+      shelf = g.H.Shelf.told c.args.shelf.now;
+      output = g.O.Sink.told c.args.out.now;
+      errors = g.E.Sink.told c.args.err.now;
     } in
     let left : Outside = record {
-      shelf = record {
-        files = g.H.Shelf.files c.answer.new.shelf;
-        failed = g.H.Shelf.failed c.answer.new.shelf;
-      };
-      output = record {
-        written = g.O.Sink.written c.answer.new.out;
-        faults = g.O.Sink.faults c.answer.new.out;
-        shorts = g.O.Sink.shorts c.answer.new.out;
-      };
-      errors = record {
-        written = g.E.Sink.written c.say.new.err;
-        faults = g.E.Sink.faults c.say.new.err;
-        shorts = g.E.Sink.shorts c.say.new.err;
-      };
+      shelf = g.H.Shelf.told c.answer.new.shelf;
+      output = g.O.Sink.told c.answer.new.out;
+      errors = g.E.Sink.told c.say.new.err;
     } in
     call_said (texts_of c.args.words.now) found left c.status.result c.in-Err.refusal
     c.status.ensures (c.in-Err.ensures.answers, c.in-Err.ensures.unread, c.in-Err.ensures.shelf)

@@ -49,9 +49,9 @@ pub returns-in-Replay-clause-comes : goal.returns-in-Replay-clause-comes
 returns-in-Replay-clause-comes g c =
     let test = c.args.test.now in
     let trace = c.in-Replay.replay.trace in
-    let told = g.H.Shelf.files c.args.shelf.now in
-    let failed = g.H.Shelf.failed c.args.shelf.now in
-    let failed' = g.H.Shelf.failed c.reply_to_file.new.shelf in
+    let told = (g.H.Shelf.told c.args.shelf.now).files in
+    let failed = (g.H.Shelf.told c.args.shelf.now).failed in
+    let failed' = (g.H.Shelf.told c.reply_to_file.new.shelf).failed in
     let Of : List ℕ → NamedFiles → Printed → Type 0 = λ name files.
     OfReplay (take trace_bytes (files name)) (plain_script test.script) test.deal in
     let P : List ℕ → Type 0 = λ name.
@@ -64,9 +64,9 @@ pub returns-in-Expose-clause-comes : goal.returns-in-Expose-clause-comes
 returns-in-Expose-clause-comes g c =
     let test = c.args.test.now in
     let script = plain_script test.script in
-    let told = g.H.Shelf.files c.args.shelf.now in
-    let failed = g.H.Shelf.failed c.args.shelf.now in
-    let failed' = g.H.Shelf.failed c.expose_file.new.shelf in
+    let told = (g.H.Shelf.told c.args.shelf.now).files in
+    let failed = (g.H.Shelf.told c.args.shelf.now).failed in
+    let failed' = (g.H.Shelf.told c.expose_file.new.shelf).failed in
     let job = c.in-Expose.expose in
     let P : List ℕ → Type 0 = λ name. Comes
     (λ files. OfExpose (take directive_bytes (files name)) job.order job.word job.steps
@@ -79,9 +79,9 @@ pub returns-in-Certify-clause-comes : goal.returns-in-Certify-clause-comes
 returns-in-Certify-clause-comes g c =
     let test = c.args.test.now in
     let script = plain_script test.script in
-    let told = g.H.Shelf.files c.args.shelf.now in
-    let failed = g.H.Shelf.failed c.args.shelf.now in
-    let failed' = g.H.Shelf.failed c.certify_file.new.shelf in
+    let told = (g.H.Shelf.told c.args.shelf.now).files in
+    let failed = (g.H.Shelf.told c.args.shelf.now).failed in
+    let failed' = (g.H.Shelf.told c.certify_file.new.shelf).failed in
     let job = c.in-Certify.certify in
     let Of : List ℕ → NamedFiles → Printed → Type 0 = λ name files.
     OfCertify (take directive_bytes (files name)) job.steps job.limit script test.deal in

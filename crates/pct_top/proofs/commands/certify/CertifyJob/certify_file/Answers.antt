@@ -13,10 +13,10 @@ returns-in_err-plan-clause-comes g c =
     let job = c.args.self.now in
     let test = c.args.test.now in
     let script = plain_script test.script in
-    let told = g.H.Shelf.files c.args.shelf.now in
+    let told = (g.H.Shelf.told c.args.shelf.now).files in
     let file = c.args.directive.now in
-    let failed = g.H.Shelf.failed c.args.shelf.now in
-    let missed : Type 0 = Misses (Some file) failed (g.H.Shelf.failed c.read_directed.new.shelf) in
+    let failed = (g.H.Shelf.told c.args.shelf.now).failed in
+    let missed : Type 0 = Misses (Some file) failed (g.H.Shelf.told c.read_directed.new.shelf).failed in
     let refusal = c.in_err-plan.field-0.0 in
     let G : NameLists → Type 0 = λ names.
     GivesDirective told file names missed (Err refusal) in
@@ -30,10 +30,10 @@ returns-clause-comes g c =
     let job = c.args.self.now in
     let test = c.args.test.now in
     let script = plain_script test.script in
-    let told = g.H.Shelf.files c.args.shelf.now in
+    let told = (g.H.Shelf.told c.args.shelf.now).files in
     let file = c.args.directive.now in
-    let failed = g.H.Shelf.failed c.args.shelf.now in
-    let missed : Type 0 = Misses (Some file) failed (g.H.Shelf.failed c.read_directed.new.shelf) in
+    let failed = (g.H.Shelf.told c.args.shelf.now).failed in
+    let missed : Type 0 = Misses (Some file) failed (g.H.Shelf.told c.read_directed.new.shelf).failed in
     let plan = c.in_ok-plan.plan in
     let H : NameLists → Type 0 = λ names. HasDirective told file names plan in
     directive_shown told file script.names
