@@ -404,6 +404,9 @@ PctCount pct_text_report_json(const uint8_t *names, size_t name_bytes, const Pct
 /* The version of the library. */
 uint32_t pct_tell_version(void);
 
+/* 1 where the library was proved before it was built, and 0 where `./build --unproved` compiled it without. */
+uint32_t pct_tell_is_proved(void);
+
 /* The moments of a run's change points: of each point (at least 1) that is a step and that no later point equals, its thread and the
    number of that thread's own step. At most 7 points. PCT_DONE, PCT_NO_ROOM, PCT_BAD, PCT_NO_MEMORY. */
 PctCount pct_tell_moments(const PctEvent *steps, size_t step_count, const uint32_t *points, size_t point_count,

@@ -227,7 +227,7 @@ def own_answer(words):
     """The lines of the program's own options; none for other words. Its help and its explanations are the cases'
     texts, and so are the words that it names where it is asked for another one."""
     if words == ["--version"]:
-        return ["pct 0.1.0"]
+        return ["pct 0.2.0"]
     if words == ["--help"]:
         return text_of_case("own_help")
     if len(words) == 2 and words[0] == "--explain":

@@ -292,6 +292,7 @@ int main(void) {
     static char buffer[65536];
     setvbuf(stdout, buffer, _IOFBF, sizeof buffer);
     IS(pct_tell_version() == PCT_VERSION);
+    IS(pct_tell_is_proved() <= 1);
     check_draw();
     check_books();
     check_texts();

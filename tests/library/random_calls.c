@@ -234,6 +234,8 @@ static uint32_t report_text(void) { return report(0); }
 static uint32_t report_json(void) { return report(1); }
 static uint32_t version(void) { return pct_tell_version() == PCT_VERSION ? PCT_DONE : PCT_BAD; }
 
+static uint32_t is_proved(void) { return pct_tell_is_proved() <= 1 ? PCT_DONE : PCT_BAD; }
+
 static uint32_t moments(void) {
     const uint32_t points[2] = {1, drawn(2, 9, 0)};
     return pct_tell_moments(run_steps, 8, points, 2, made.moments, drawn(2, 8, 0)).status;
@@ -287,7 +289,7 @@ static const struct {
     {"pct_text_read_directive", read_directive}, {"pct_text_read_trace", read_trace}, {"pct_text_trace_free", trace_free},
     {"pct_text_trace_head", trace_head}, {"pct_text_trace_order", trace_order}, {"pct_text_trace_steps", trace_steps},
     {"pct_text_trace_verdict", trace_verdict}, {"pct_text_report", report_text}, {"pct_text_report_json", report_json},
-    {"pct_tell_version", version}, {"pct_tell_moments", moments}, {"pct_tell_points", points},
+    {"pct_tell_version", version}, {"pct_tell_is_proved", is_proved}, {"pct_tell_moments", moments}, {"pct_tell_points", points},
     {"pct_tell_order_count", order_count}, {"pct_tell_order", order}, {"pct_tell_bound", bound}, {"pct_tell_races", races},
     {"pct_tell_lock_order", lock_order}, {"pct_tell_groups", groups},
 };

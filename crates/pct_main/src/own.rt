@@ -68,7 +68,7 @@ This is no word that pct prints. These are, and --explain says what each of them
 ";
 
 /// What `pct --version` answers.
-const VERSION: &str = "pct 0.1.0\n";
+const VERSION: &str = "pct 0.2.0\n";
 
 /// An option that the program answers by itself.
 #[derive(Clone, Copy, Debug, PartialEq, Eq)]
