@@ -19,12 +19,11 @@ from pcthunt.machine_forms import Outcome, annotation_lines, junit, line_of
 from pcthunt.output import BAD_SCRIPT, DONE, FOUND, USAGE, WRITE_FAULT, Refused, keep, put, read, shown
 from pcthunt.page import page_words, write_page
 from pcthunt.program import Program
-from pcthunt.refusals import script_refusal
 from pcthunt.why import why_words
 from pcthunt.report import Result, text_of
 from pcthunt.rounds import Crew, Parts
+from pcthunt.shorter import Source
 from pcthunt.settings import Settings, processors
-from pctmodel.script import Faulty
 
 INTERRUPTED = 130
 MOST_SCRIPT = 1048577  # bytes, and one more than a script may have
@@ -130,20 +129,15 @@ class Session:
 
     def hunt(self, path: str) -> Result:
         """The result of one script."""
-        data = read(path, MOST_SCRIPT)
-        keep(os.path.join(self.room, "script.pct"), data)
-        try:
-            hunt = Hunt(self.settings, self.program, path, data, self.room)
-        except Faulty as fault:
-            raise Refused(BAD_SCRIPT, script_refusal(path, data, fault)) from None
+        hunt = Hunt(self.settings, self.program, Source(path, read(path, MOST_SCRIPT), self.room), self.room)
         self.hunts.append(hunt)
         return hunt.run(self.crew, self.parts(hunt))
 
     def parts(self, hunt: Hunt) -> Parts:
         if self.settings.sshlogin:
             from pcthunt.machines import MachineParts
-            return MachineParts(self.program, hunt.path, self.crew, self.settings.sshlogin)
-        return Parts(self.program, hunt.path, self.crew)
+            return MachineParts(self.program, hunt.source.forms[0].path, self.crew, self.settings.sshlogin)
+        return Parts(self.program, hunt.source.forms[0].path, self.crew)
 
     def outcome(self, path: str, wanted: str | None = None) -> Outcome:
         """The outcome of a script that should come to what is wanted, or to what it says itself."""

@@ -46,7 +46,9 @@ class Story:
 
     def of_registers(self, number: int) -> None:
         """The registers that a step uses, with the line and the reads that gave each value."""
-        for name, (value, origin) in self.seen.registers.get(number, {}).items():
+        thread = self.script.threads[self.events[number - 1].thread]
+        for own, (value, origin) in self.seen.registers.get(number, {}).items():
+            name = thread.names.get(own, own)
             if origin is None:
                 self.tell(f"{name} is {value}, as at the start")
                 continue

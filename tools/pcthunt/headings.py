@@ -7,6 +7,7 @@ from dataclasses import dataclass, field
 from pcthunt.document import complete_run, deal_of, run_of, Texts
 from pcthunt.program import Program
 from pcthunt.rounds import Choice, Round
+from pcthunt.shorter import Source
 from pcthunt.states import Json
 from pctmodel.script import Script, cut_tokens
 from pctmodel.trace import Trace, read_trace
@@ -20,6 +21,7 @@ class Schedule:
 
     options: tuple[str, ...]
     seed: Json | None
+    form: int = 0  # of the plain scripts that one, from 0
 
     def words(self, script: str) -> list[str]:
         return [script, *self.options]
@@ -114,21 +116,22 @@ def schedule_of(seed: int, round_: Round) -> Schedule:
     words = ["--seed", str(seed), "--depth", str(round_.depth)]
     words += ["--steps", str(round_.steps)] if round_.depth > 1 else []
     words += ["--limit", str(round_.limit)] if round_.limit != 10000 else []
-    return Schedule(tuple(words), {"seed": str(seed), "depth": round_.depth, "steps": round_.steps})
+    return Schedule(tuple(words), {"seed": str(seed), "depth": round_.depth, "steps": round_.steps}, round_.form)
 
 
 def schedule_of_choice(choice: Choice, round_: Round) -> Schedule:
     words = ["--order", ",".join(choice.order)]
     words += ["--points", ",".join(map(str, choice.points))] if choice.points else []
     words += ["--limit", str(round_.limit)] if round_.limit != 10000 else []
-    return Schedule(tuple(words), None)
+    return Schedule(tuple(words), None, round_.form)
 
 
-def failures_of(rounds: list[Round]) -> list[Failure]:
+def failures_of(rounds: list[Round], source: Source) -> list[Failure]:
     """The verdicts that don't pass, those of most runs first."""
     found: dict[str, Failure] = {}
     for round_ in rounds:
-        for verdict, count, steps, schedule in met_in(round_):
+        for plain_verdict, count, steps, schedule in met_in(round_):
+            verdict = source.verdict(plain_verdict)
             failure = found.setdefault(verdict, Failure(verdict, {}, steps, schedule))
             failure.counts[round_.number] = failure.counts.get(round_.number, 0) + count
             if steps < failure.steps:
@@ -151,13 +154,13 @@ def met_in(round_: Round) -> list[tuple[str, int, int, Schedule]]:
 class Headings:
     """Makes a run of each verdict, and puts those of equal keys together."""
 
-    def __init__(self, program: Program, path: str, title: str, script: Script, text: str) -> None:
-        self.program, self.path, self.script = program, path, script
-        self.title = title
+    def __init__(self, program: Program, source: Source) -> None:
+        self.program, self.source, self.title = program, source, source.title
         self.is_interrupted = False
+        script, text = source.forms[0].script, source.data.decode()
         self.places = Places(script, text)
-        self.deal = deal_of(script, title)
-        self.texts = Texts([{"file": title, "text": text}])
+        self.deal = deal_of(script, self.title)
+        self.texts = Texts([{"file": self.title, "text": text}])
 
     def of(self, failures: list[Failure]) -> list[Heading]:
         """Failures of several keys come last, under the first of these that isn't there yet, or else the first."""
@@ -180,9 +183,10 @@ class Headings:
         return made
 
     def make_run(self, failure: Failure) -> Failure:
-        answer = self.program.whole("run", *failure.schedule.words(self.path))
-        failure.trace = read_trace(answer.out.encode(), self.script)
-        failure.run = run_of(self.script, failure.trace, self.title, failure.schedule.seed)
+        form = self.source.forms[failure.schedule.form]
+        answer = self.program.whole("run", *failure.schedule.words(form.path))
+        failure.trace = self.source.trace(read_trace(answer.out.encode(), form.plain))
+        failure.run = run_of(form.script, failure.trace, self.title, failure.schedule.seed)
         complete_run(failure.run, self.deal, self.texts)
         failure.keys = keys_of(failure.verdict, failure.run, self.places)
         return failure

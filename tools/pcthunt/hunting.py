@@ -2,7 +2,6 @@
 
 from __future__ import annotations
 
-import os
 import shlex
 
 from pcthunt.certify import Certifier, Sought
@@ -16,19 +15,19 @@ from pcthunt.progress import Progress
 from pcthunt.report import MOST_ROWS, Case, Result
 from pcthunt.rounds import Crew, Parts, Round, Search
 from pcthunt.settings import Settings
+from pcthunt.shorter import Form, Source
 from pcthunt.states import Json
 from pctmodel.directive import Directive, read_directive
-from pctmodel.script import Script, parse
+from pctmodel.script import Script
 
 
 class Hunt:
     """A script that was read and parsed, and the program that runs it."""
 
-    def __init__(self, settings: Settings, program: Program, title: str, data: bytes, room: str) -> None:
-        self.settings, self.program, self.title, self.data, self.room = settings, program, title, data, room
-        self.script: Script = parse(data)
-        self.text = data.decode()
-        self.path = os.path.join(room, "script.pct")
+    def __init__(self, settings: Settings, program: Program, source: Source, room: str) -> None:
+        self.settings, self.program, self.source, self.room = settings, program, source, room
+        self.title, self.data, self.text = source.title, source.data, source.data.decode()
+        self.script: Script = source.forms[0].script
         self.name = program.name()
         self.headings: Headings | None = None
         self.result: Result | None = None
@@ -38,14 +37,15 @@ class Hunt:
         """The result of the hunt. Where the search is interrupted, what it found is explained; where that is
         interrupted, too, it is reported as far as it went."""
         progress = Progress(self.settings.is_quiet, self.settings.seconds)
-        search = Search(self.settings, self.program, self.path, len(self.script.threads), parts, progress)
+        search = Search(self.settings, self.program, self.source, parts, progress)
         rounds = search.run()
-        result = Result(self.title, rounds, [], failures_of(rounds), search.why_ended, None)
+        result = Result(self.title, rounds, [], failures_of(rounds, self.source), search.why_ended, None,
+                        source=self.source)
         if search.why_ended:
             round_ = rounds[-1]
             first = round_.first if round_.is_whole() else round_.next_seed()
             result.goes_on = self.settings.command(self.title, **{"from": first})
-        self.headings = Headings(self.program, self.path, self.title, self.script, self.text)
+        self.headings = Headings(self.program, self.source)
         progress.tell(f"a run of each verdict is made, of {len(result.failures)}")
         found = self.headings.of(result.failures)
         self.is_interrupted = self.headings.is_interrupted
@@ -63,7 +63,7 @@ class Hunt:
         assert best.trace is not None
         events = best.trace.events
         first = max(1, len(events) - MOST_ROWS + 1)
-        picture = drawn(self.script, best.trace, lines_of(self.data), first, len(events))
+        picture = drawn(self.form(best).script, best.trace, lines_of(self.data), first, len(events))
         case = Case(heading, sentence_of(best.run), [], picture, [], locks_of(self.script, events))
         case.again = self.again(best)
         for explain in (self.tell_races, self.tell_needs, self.tell_passing, self.tell_certificate):
@@ -72,8 +72,12 @@ class Hunt:
                     explain(case)
             except KeyboardInterrupt:
                 self.is_interrupted = True
-        case.told = sentences_of(self.script, best.run, events, case.races)
+        case.told = sentences_of(self.form(best).script, best.run, events, case.races)
         return case
+
+    def form(self, failure: Failure) -> Form:
+        """The plain script in which it came."""
+        return self.source.forms[failure.schedule.form]
 
     def tell_races(self, case: Case) -> None:
         case.races = self.races(case.heading.best())
@@ -83,33 +87,36 @@ class Hunt:
             case.found = self.find(case.heading.best())
 
     def tell_passing(self, case: Case) -> None:
-        trace = case.heading.best().trace
-        if case.heading.kind() != "cut" and trace:
-            case.passing = passing_run(self.script, trace, self.title)
+        best = case.heading.best()
+        if case.heading.kind() != "cut" and best.trace:
+            case.passing = passing_run(self.form(best).script, best.trace, self.title)
 
     def tell_certificate(self, case: Case) -> None:
         if case.found and self.settings.certify:
             case.sought = self.certify(case.found, case.heading.best())
 
     def races(self, failure: Failure) -> list[Json]:
-        out = self.program.whole("races", *failure.schedule.words(self.path)).out
+        out = self.program.whole("races", *failure.schedule.words(self.form(failure).path)).out
         races = [line.split() for line in out.splitlines() if line.startswith("race ")]
         return [{"var": words[1], "first": int(words[2]), "second": int(words[3])} for words in races]
 
     def find(self, failure: Failure) -> Directive | None:
-        answer = self.program.whole("find", *failure.schedule.words(self.path))
-        return read_directive(answer.out.encode(), self.script) if answer.out.startswith("directive") else None
+        answer = self.program.whole("find", *failure.schedule.words(self.form(failure).path))
+        plain = self.form(failure).plain
+        return read_directive(answer.out.encode(), plain) if answer.out.startswith("directive") else None
 
     def certify(self, found: Directive, failure: Failure) -> Sought:
         assert failure.trace is not None
-        certifier = Certifier(self.program, self.path, self.script, self.room, self.settings.limit)
+        form = self.form(failure)
+        certifier = Certifier(self.program, form.path, form.plain, self.room, self.settings.limit)
         return certifier.seek(found, failure.trace.events, self.settings.certify)
 
     def again(self, failure: Failure) -> list[tuple[str, str]]:
         """The commands that show a failure again."""
-        words = shlex.join(failure.schedule.words(self.title))
+        words = shlex.join(failure.schedule.words(self.source.name()))
         kind = failure.verdict.split()[0]
-        return [("its trace", f"{self.name} run {words}"), ("its data races", f"{self.name} races {words}"),
+        return [*self.source.making(failure.schedule.form), ("its trace", f"{self.name} run {words}"),
+                ("its data races", f"{self.name} races {words}"),
                 ("what it needs", f"{self.name} find {words}"), (f"what '{kind}' means", f"{self.name} --explain "
                                                                                          f"{kind}")]
 
@@ -133,6 +140,10 @@ class Hunt:
             return told | {"sweep": True}
         return told | {"from": str(round_.first)}
 
+    def directive(self, directive: Directive, best: Failure) -> Json:
+        told = directive_of(directive, best.run)
+        return told | {"verdict": self.source.verdict(directive.verdict)}
+
     def heading(self, case: Case) -> Json:
         best = case.heading.best()
         told: Json = {
@@ -144,10 +155,10 @@ class Hunt:
             "races": case.races, "locks": case.locks,
         }
         if case.found:
-            told["find"] = directive_of(case.found, best.run)
+            told["find"] = self.directive(case.found, best)
         if case.sought and case.sought.certified:
             certified = case.sought.certified
-            told["directive"] = directive_of(certified.directive, best.run) | {
+            told["directive"] = self.directive(certified.directive, best) | {
                 "threads": certified.threads, "steps": certified.steps, "depth": len(certified.directive.events) + 1,
                 "bound": str(certified.bound), "tried": certified.tried}
         if case.passing:

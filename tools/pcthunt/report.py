@@ -10,10 +10,12 @@ from pcthunt.headings import Failure, Heading
 from pcthunt.output import shown
 from pcthunt.picture import MOST_COLUMNS, Picture, text_lines
 from pcthunt.rounds import Round
+from pcthunt.shorter import Source
 from pcthunt.states import Json, listed
 from pctmodel.directive import Directive
 
 MOST_ROWS = 120  # of the lanes that are printed
+MOST_FORMS = 12  # ways to choose that are listed
 
 
 @dataclass
@@ -42,6 +44,7 @@ class Result:
     failures: list[Failure]
     why_ended: str | None
     goes_on: str | None  # the command by which a search that was ended goes on
+    source: Source | None = None
     again: str | None = None  # where the explanation was interrupted, the command that makes all of it
 
     def has_failed(self) -> bool:
@@ -76,11 +79,35 @@ def round_line(round_: Round) -> str:
     return f"depth {round_.depth}: {done} from {round_.first} on{points}: {fail}"
 
 
+def round_lines(result: Result) -> list[str]:
+    """A line for each round; of several plain scripts one for each script."""
+    forms = result.source.forms if result.source else []
+    if len(forms) < 2:
+        return [f"  {round_line(it)}" for it in result.rounds]
+    lines = [f"  {len(forms)} ways to choose, each in runs of its own:"]
+    for number, form in enumerate(forms[:MOST_FORMS]):
+        own = [it for it in result.rounds if it.form == number]
+        runs, failures = sum(it.done() for it in own), sum(it.failures() for it in own)
+        said = f"{runs:,} runs at depths 1 to {own[-1].depth}: {failures:,} fail" if own else "not run"
+        lines += folded(f"{form.chosen}: {said}", f"    {number + 1}. ", "       ")
+    if len(forms) > MOST_FORMS:
+        rest = [it for it in result.rounds if it.form >= MOST_FORMS]
+        lines.append(f"    and {len(forms) - MOST_FORMS} more: {sum(it.done() for it in rest):,} runs: "
+                     f"{sum(it.failures() for it in rest):,} fail")
+    return lines
+
+
 def shares(heading: Heading, rounds: list[Round]) -> str:
     """In how many runs of each round it came."""
+    by_number = {it.number: it for it in rounds}
+    forms = {by_number[number].form for number in heading.counts()}
+    if len({it.form for it in rounds}) > 1:
+        which = ", ".join(str(it + 1) for it in sorted(forms)[:8]) + (", .." if len(forms) > 8 else "")
+        runs = sum(it.done() for it in rounds if it.form in forms)
+        return f"{sum(heading.counts().values()):,} of {runs:,} runs of the ways {which}"
     told = []
     for number, count in heading.counts().items():
-        round_ = next(it for it in rounds if it.number == number)
+        round_ = by_number[number]
         what = "choices" if round_.sweep is not None else "seeds"
         whole = "all " if round_.sweep is not None else ""
         told.append(f"{count:,} of {whole}{round_.done():,} {what} at depth {round_.depth}")
@@ -193,7 +220,7 @@ def text_of(result: Result) -> str:
     elif not result.has_run():
         what = "no run came to its end"
     lines = [f"{shown(result.title)}: {what}"]
-    lines += [f"  {round_line(it)}" for it in result.rounds]
+    lines += round_lines(result)
     if result.why_ended:
         lines.append(f"  The search was ended: {result.why_ended}. It goes on by")
         lines.append(f"    {result.goes_on}")
@@ -205,7 +232,7 @@ def text_of(result: Result) -> str:
     rest = [failure for failure in result.failures if not failure.run]
     if rest:
         runs = sum(it.count() for it in rest)
-        made_by = shlex.join(["run", *rest[0].schedule.words(result.title)])
+        made_by = shlex.join(["run", *rest[0].schedule.words(result.source.name() if result.source else result.title)])
         many_more = "1 more verdict" if len(rest) == 1 else f"{len(rest)} more verdicts"
         lines += ["", f"Of {many_more}, in {runs:,} runs, no run was made here. '{rest[0].verdict}' is the first, "
                       "which "

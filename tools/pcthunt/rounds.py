@@ -16,6 +16,7 @@ from pcthunt.program import Program
 from pcthunt.progress import Progress
 from pcthunt.reports import SEEDS, NoReport, Report, Row, merged, reports_of
 from pcthunt.settings import AT_DEPTH_1, Settings, processors
+from pcthunt.shorter import Source
 
 BATCH, MOST_OF_A_PART = 64, 4096  # seeds: a campaign starts its threads once for so many
 SECONDS_OF_A_PART = 0.4
@@ -44,6 +45,7 @@ class Round:
     steps: int = 0  # k, from which the points are drawn
     rows: list[Row] = field(default_factory=list)
     sweep: list[Choice] | None = None
+    form: int = 0  # of the plain scripts that one, from 0
     longest: int = 0  # steps of a run that wasn't cut, as far as they are known
 
     def failures(self) -> int:
@@ -153,20 +155,36 @@ class Parts:
 class Search:
     """The rounds of a hunt, in order."""
 
-    def __init__(self, settings: Settings, program: Program, script: str, threads: int, parts: Parts,
-                 progress: Progress) -> None:
-        self.settings, self.program, self.script, self.threads = settings, program, script, threads
+    def __init__(self, settings: Settings, program: Program, source: Source, parts: Parts, progress: Progress) -> None:
+        self.settings, self.program, self.source = settings, program, source
+        self.threads = len(source.forms[0].script.threads)
         self.parts, self.progress = parts, progress
         self.rounds: list[Round] = []
         self.why_ended: str | None = None  # interrupted, or out of time
 
     def run(self) -> list[Round]:
+        """The rounds of each plain script of the source."""
+        for number, form in enumerate(self.source.forms):
+            self.parts.script = form.path
+            self.run_form(number)
+            if self.is_enough():
+                break
+        return self.rounds
+
+    def is_enough(self) -> bool:
+        has_failed = any(it.failures() for it in self.rounds)
+        return self.why_ended is not None or (self.settings.is_first_enough and has_failed)
+
+    def run_form(self, number: int) -> None:
         has_sweep = self.program.has_sweep()
+        own: list[Round] = []
         for depth in range(1, self.settings.depth + 1):
             wanted = AT_DEPTH_1 if depth == 1 else self.settings.seeds
-            steps = self.longest() if depth > 1 else 0
-            round_ = Round(len(self.rounds), depth, self.settings.first, wanted, self.settings.limit, steps)
+            steps = max([1, *(it.longest for it in own)]) if depth > 1 else 0
+            round_ = Round(len(self.rounds), depth, self.settings.first, wanted, self.settings.limit, steps,
+                           form=number)
             self.rounds.append(round_)
+            own.append(round_)
             choices = math.factorial(self.threads) * max(round_.steps, 1) ** (depth - 1)
             try:
                 if has_sweep and choices <= min(wanted, MOST_SWEPT):
@@ -176,13 +194,8 @@ class Search:
             except KeyboardInterrupt:
                 self.why_ended = "interrupted"
             self.progress.clear()
-            if self.why_ended or (self.settings.is_first_enough and round_.failures()):
+            if self.is_enough():
                 break
-        return self.rounds
-
-    def longest(self) -> int:
-        """The steps of the longest run so far that wasn't cut."""
-        return max([1, *(round_.longest for round_ in self.rounds)])
 
     def campaign(self, round_: Round) -> None:
         self.progress.begin_round()
@@ -220,7 +233,7 @@ class Search:
 
     def sweep(self, round_: Round) -> None:
         """All choices of an order and points, by the program's sweep."""
-        words = ["sweep", self.script, "--depth", str(round_.depth), "--limit", str(round_.limit)]
+        words = ["sweep", self.parts.script, "--depth", str(round_.depth), "--limit", str(round_.limit)]
         words += ["--steps", str(round_.steps)] if round_.steps else []
         self.progress.begin_round()
         swept = self.parts.crew.pool.submit(self.program.whole, *words)

@@ -70,11 +70,12 @@ class Statement:
 
 @dataclass
 class Thread:
-    """A thread: the line that begins it, its statements, and the line of its end."""
+    """A thread: the line that begins it, its statements, the line of its end, and names that its registers have."""
 
     line: int
     block: list[Statement]
     end_line: int = 0
+    names: dict[str, str] = field(default_factory=dict)
 
 
 @dataclass
