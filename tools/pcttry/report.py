@@ -1,0 +1,173 @@
+"""What is told of a run: a sentence, its steps in lanes, where each thread stands, and for a race its two places."""
+
+from __future__ import annotations
+
+import signal
+from collections.abc import Iterator
+
+from pcttry.runner import Access, End, Run, Step, Told
+from pcttry.symbols import Place, Symbols
+
+WIDTH = 18
+# Steps by which one thread wakes another, with the thread's number as what they ask.
+WAKES = 14
+
+
+def signal_name(number: int) -> str:
+    try:
+        return signal.Signals(number).name
+    except ValueError:
+        return f"signal {number}"
+
+
+def sentence(run: Run, told: Told) -> str:
+    """What a run came to, in one sentence."""
+    words = {End.DEADLOCK: "deadlock: nobody can go on", End.LIVELOCK: f"livelock: {told.told}",
+             End.CUT: f"cut: {told.told}", End.MISUSE: f"misuse: {told.told}",
+             End.RACE: "data race", End.USE_AFTER_FREE: "use after free"}
+    if run.end in words:
+        return words[run.end]
+    if run.end != End.GOES:
+        return told.told
+    if run.status & 127 == 9:
+        return "it hangs, and was ended"
+    if run.status & 127:
+        return f"it died by {signal_name(run.status & 127)}"
+    return f"it ended with status {run.status >> 8}" if run.status else "it passed"
+
+
+class Report:
+    """A run with its places and names."""
+
+    def __init__(self, run: Run, told: Told, symbols: Symbols) -> None:
+        self.run, self.told, self.symbols = run, told, symbols
+        lists = [step.frames for step in [*told.steps, *told.waiting]] + [it.frames for it in told.accesses]
+        symbols.look_up([frame for frames in lists for frame in frames] + list(told.functions.values()))
+        self.names = self.thread_names()
+
+    # --- Names ---
+
+    def function_of(self, thread: int) -> str:
+        """The program's outermost function in the thread's first step that stands in one."""
+        start = self.symbols.name(self.told.functions.get(thread, 0)) or ""
+        steps = [step for step in self.told.steps if step.thread == thread and len(step.frames) > 1]
+        if start and not start.startswith(("execute_native", "std::")):
+            return short_name(start)
+        for step in steps:
+            users = [place for place in self.symbols.users(step.frames) if place.function != "main"]
+            if users:
+                return short_name(users[-1].function)
+        return f"thread_{thread}"
+
+    def thread_names(self) -> dict[int, str]:
+        names = {0: "main"}
+        for thread in sorted(set(self.told.functions) - {0}):
+            name = self.function_of(thread)
+            same = sum(1 for it in names.values() if it == name or it.rsplit("_", 1)[0] == name)
+            names[thread] = f"{name}_{same + 1}" if same else name
+        return names
+
+    def name(self, thread: int) -> str:
+        return self.names.get(thread, f"thread_{thread}")
+
+    def object(self, address: int) -> str:
+        """A global's name, or the number of a thread's seat, which is told as an address below 65."""
+        if 0 < address < 65:
+            return self.name(address - 1)
+        return (self.symbols.name(address) or f"{address:#x}") if address else ""
+
+    def what(self, step: Step) -> str:
+        """A step in words."""
+        if step.kind == WAKES:
+            return f"{step.what} {self.name(step.object)}"
+        words = [step.what, self.object(step.at)]
+        if step.what.startswith(("atomic", "plain read", "plain write")):
+            words.append(f"= {signed(step.value)}")
+        if step.kind in (6, 28, 29) and not step.answer:
+            words.append("is busy")
+        return " ".join(word for word in words if word)
+
+    def place(self, frames: tuple[int, ...]) -> str:
+        place = self.symbols.place(frames)
+        return place.short() if place else ""
+
+    # --- Text ---
+
+    def lanes(self) -> Iterator[str]:
+        """A line for each step, below its thread's name."""
+        threads = sorted({step.thread for step in self.told.steps})
+        if len(threads) > 4:
+            yield from self.rows()
+            return
+        texts = [self.what(step) for step in self.told.steps]
+        width = max([WIDTH, *map(len, texts)]) + 2
+        yield "  step  " + "".join(self.name(thread).ljust(width) for thread in threads) + "place"
+        for number, (step, text) in enumerate(zip(self.told.steps, texts, strict=True), 1):
+            lane = threads.index(step.thread)
+            row = " " * (lane * width) + text
+            yield f"{number:6}  {row.ljust(len(threads) * width - 1)} {self.place(step.frames)}".rstrip()
+
+    def rows(self) -> Iterator[str]:
+        for number, step in enumerate(self.told.steps, 1):
+            yield f"{number:6}  {self.name(step.thread)}: {self.what(step)}  {self.place(step.frames)}".rstrip()
+
+    def access(self, access: Access, word: str) -> Iterator[str]:
+        verb = ("atomic " if access.is_atomic else "") + word
+        where = self.object(access.at)
+        yield f"  {self.name(access.thread)} {verb} {where}, {access.size} bytes, in {self.place(access.frames)}"
+        for place in self.symbols.users(access.frames)[1:5]:
+            yield f"      called in {place.short()} ({short_name(place.function)})"
+        if access.held:
+            yield "      holding " + ", ".join(map(self.object, access.held))
+
+    def accesses(self) -> Iterator[str]:
+        first, *others = self.told.accesses or [None]
+        if self.run.end == End.RACE and first and others:
+            for access in (first, *others):
+                yield from self.access(access, "writes" if access.is_write else "reads")
+        elif self.run.end == End.USE_AFTER_FREE and first and others:
+            yield from self.access(others[0], "writes" if others[0].is_write else "reads")
+            yield f"  {self.name(first.thread)} freed it in {self.place(first.frames)}"
+        elif first:
+            places = self.symbols.users(first.frames)
+            for i, place in enumerate(places[:5]):
+                yield f"  {self.name(first.thread)} " + ("in" if i == 0 else "called in") + f" {place.short()} ({short_name(place.function)})"
+
+    def waiting(self) -> Iterator[str]:
+        for step in self.told.waiting:
+            yield f"  {self.name(step.thread)} {waits(self.what(step))}  {self.place(step.frames)}"
+
+    def lines(self, with_lanes: bool) -> Iterator[str]:
+        yield sentence(self.run, self.told)
+        yield from self.accesses()
+        if self.run.end in (End.DEADLOCK, End.LIVELOCK, End.CUT) or (self.run.end == End.GOES and self.run.status & 127 == 9):
+            yield from self.waiting()
+        if with_lanes:
+            yield from self.lanes()
+
+
+def waits(text: str) -> str:
+    return text if text.startswith("waits") else f"wants: {text}"
+
+
+def signed(value: int) -> int:
+    return value - (1 << 64) if value >> 63 else value - (1 << 32) if value >> 31 == 1 else value
+
+
+def short_name(name: str) -> str:
+    """A function's name without its parameters, templates and scopes; a lambda by where it stands."""
+    if "{lambda" in name:
+        scope = name[:name.rfind("{lambda")].rstrip(":").split("(")[0].rsplit("::", 1)[-1]
+        number = name[name.rfind("#") + 1:].split("}")[0]
+        return f"{scope}_lambda_{number}" if scope else f"lambda_{number}"
+    depth, kept = 0, []
+    for letter in name.split("(")[0]:
+        depth += letter == "<"
+        if depth == 0:
+            kept.append(letter)
+        depth -= letter == ">"
+    return "".join(kept).rsplit("::", 1)[-1].rsplit(" ", 1)[-1] or name
+
+
+def place_text(place: Place | None) -> str:
+    return place.short() if place else "?"
