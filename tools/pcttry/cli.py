@@ -15,10 +15,10 @@ from pcttry.search import Found, Search, Settings
 from pcttry.symbols import Symbols
 
 PLAIN = {"off": 0, "races": 1, "steps": 2, "racy": 3}
-HELP = """Tests a program that pct-cc or pct-c++ linked: its main is the test, in a process of its own for each run, and
-its real threads run one at a time in an order that pct chooses. A run fails by an assertion, a signal, a status that
-isn't 0, a deadlock, a livelock, a data race, or a use of memory after it was freed. The status is 0 where no run failed,
-1 where one did, and 2 where the program can't be tested."""
+HELP = """Tests a program that pct-cc or pct-c++ linked: its main is the test, in a process of its own for each run,
+and its real threads run one at a time in an order that pct chooses. A run fails by an assertion, a signal, a status
+that isn't 0, a deadlock, a livelock, a data race, or a use of memory after it was freed. The status is 0 where no run
+failed, 1 where one did, and 2 where the program can't be tested."""
 
 
 def arguments() -> argparse.ArgumentParser:
@@ -130,7 +130,7 @@ def replay(path: str, words: argparse.Namespace) -> int:
     trace = tracefile.read(path)
     command = command_of(words.program or trace.command)
     runner = Runner(command)
-    search = Search([runner], Settings(**{**trace.settings, "timeouts": bool(trace.settings["timeouts"])}))
+    search = Search([runner], tracefile.settings_of(trace))
     try:
         search.begin()
         modules = runner.modules()

@@ -6,7 +6,7 @@ import signal
 from collections.abc import Iterator
 
 from pcttry.runner import Access, End, Run, Step, Told
-from pcttry.symbols import Place, Symbols
+from pcttry.symbols import Symbols
 
 WIDTH = 18
 # Steps by which one thread wakes another, with the thread's number as what they ask.
@@ -29,7 +29,7 @@ def sentence(run: Run, told: Told) -> str:
         return words[run.end]
     if run.end != End.GOES:
         return told.told
-    if run.status & 127 == 9:
+    if has_hung(run):
         return "it hangs, and was ended"
     if run.status & 127:
         return f"it died by {signal_name(run.status & 127)}"
@@ -121,17 +121,19 @@ class Report:
             yield "      holding " + ", ".join(map(self.object, access.held))
 
     def accesses(self) -> Iterator[str]:
-        first, *others = self.told.accesses or [None]
-        if self.run.end == End.RACE and first and others:
-            for access in (first, *others):
+        """Of a race its two accesses; of a use after free the use and the free; else where the program died."""
+        known = self.told.accesses
+        if len(known) == 2 and self.run.end == End.RACE:
+            for access in known:
                 yield from self.access(access, "writes" if access.is_write else "reads")
-        elif self.run.end == End.USE_AFTER_FREE and first and others:
-            yield from self.access(others[0], "writes" if others[0].is_write else "reads")
-            yield f"  {self.name(first.thread)} freed it in {self.place(first.frames)}"
-        elif first:
-            places = self.symbols.users(first.frames)
-            for i, place in enumerate(places[:5]):
-                yield f"  {self.name(first.thread)} " + ("in" if i == 0 else "called in") + f" {place.short()} ({short_name(place.function)})"
+        elif len(known) == 2:
+            freed, use = known
+            yield from self.access(use, "writes" if use.is_write else "reads")
+            yield f"  {self.name(freed.thread)} freed it in {self.place(freed.frames)}"
+        elif known:
+            for i, place in enumerate(self.symbols.users(known[0].frames)[:5]):
+                where = f"{place.short()} ({short_name(place.function)})"
+                yield f"  {self.name(known[0].thread)} {'called ' if i else ''}in {where}"
 
     def waiting(self) -> Iterator[str]:
         for step in self.told.waiting:
@@ -140,10 +142,14 @@ class Report:
     def lines(self, with_lanes: bool) -> Iterator[str]:
         yield sentence(self.run, self.told)
         yield from self.accesses()
-        if self.run.end in (End.DEADLOCK, End.LIVELOCK, End.CUT) or (self.run.end == End.GOES and self.run.status & 127 == 9):
+        if self.run.end in (End.DEADLOCK, End.LIVELOCK, End.CUT) or has_hung(self.run):
             yield from self.waiting()
         if with_lanes:
             yield from self.lanes()
+
+
+def has_hung(run: Run) -> bool:
+    return run.end == End.GOES and run.status & 127 == signal.SIGKILL
 
 
 def waits(text: str) -> str:
@@ -167,7 +173,3 @@ def short_name(name: str) -> str:
             kept.append(letter)
         depth -= letter == ">"
     return "".join(kept).rsplit("::", 1)[-1].rsplit(" ", 1)[-1] or name
-
-
-def place_text(place: Place | None) -> str:
-    return place.short() if place else "?"

@@ -162,7 +162,7 @@ class Runner:
         raise Refused(f"{self.command[0]} isn't a program that pct-cc or pct-c++ linked: it doesn't answer")
 
     def answer(self) -> list[str]:
-        lines = []
+        lines: list[str] = []
         for line in self.reader:
             if line == ".\n":
                 return lines

@@ -11,7 +11,8 @@ from dataclasses import dataclass
 from pcttry.runner import Module
 
 # Files whose lines say nothing of the program: of the compiler, the library and the runtime.
-NOT_THE_USERS = re.compile(r"^(/usr/(include|lib|src)/|/build/|\?\?)|/pct/c/|/native/c/stand|/(sysdeps|nptl|csu|libstdc\+\+-v3)/")
+NOT_THE_USERS = re.compile(r"^(/usr/(include|lib|src)/|/build/|\?\?)|/native/c/stand_\w+\.c|"
+                           r"/(sysdeps|nptl|csu|libstdc\+\+-v3)/")
 
 
 @dataclass(frozen=True)

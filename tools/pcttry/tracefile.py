@@ -2,6 +2,7 @@
 
 from __future__ import annotations
 
+import ast
 from collections.abc import Sequence
 from dataclasses import dataclass
 
@@ -54,9 +55,15 @@ def trace_of(command: Sequence[str], run: Run, n: int, k: int, settings: Setting
                  offsets(told.learned, modules), run.digest, verdict)
 
 
-def word_of(text: str) -> str:
-    import ast
+def settings_of(trace: Trace) -> Settings:
+    """What the run went by, but for what a search alone takes."""
+    kept = trace.settings
+    return Settings(plain=kept["plain"], reuse=bool(kept["reuse"]), timeouts=bool(kept["timeouts"]),
+                    chaos=bool(kept["chaos"]), limit=kept["limit"], patience=kept["patience"],
+                    any_status=bool(kept["any_status"]))
 
+
+def word_of(text: str) -> str:
     word = ast.literal_eval(text)
     if not isinstance(word, str):
         raise ValueError(text)
