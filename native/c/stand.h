@@ -151,7 +151,7 @@ typedef struct Seat {
     uint64_t since, deadline, looked;
 
     Seen seen[MOST_SEEN];
-    uint32_t seen_count, plain_in_row;
+    uint32_t seen_count;
 
     Clock clock, released, acquired; /* released, acquired: what fences make of relaxed atomics */
 } Seat;
@@ -163,7 +163,9 @@ typedef struct Self {
     int32_t seat;
     uint32_t depth;
     uintptr_t pc;
-    bool has_step; /* since it last noted a value */
+    bool has_step;  /* since it last noted a value */
+    uint32_t epoch; /* its own part of its clock */
+    int32_t budget; /* accesses of memory that it may still make without a look at anything else */
     uintptr_t calls[MOST_CALLS];
 } Self;
 extern __thread Self self __attribute__((tls_model("initial-exec")));
@@ -218,6 +220,7 @@ void rest(const char *what);
 /* After many steps in a row, or accesses without a step, while others could go. */
 void give_way(void);
 void count_access(void);
+void begin_budget(void);
 void begin_wait(Wait wait, const volatile void *at);
 /* Of a thread that began to wait for a time, by the program's clock. */
 void wait_until(uint64_t deadline);
@@ -235,6 +238,7 @@ uint32_t draw_below(uint32_t most);
 /* --- stand_clock.c: happens-before --- */
 
 void begin_clocks(void);
+void next_epoch(void);
 void join_clock(Clock *to, const Clock *from);
 void acquire(const volatile void *at);
 void release(const volatile void *at);
@@ -245,7 +249,6 @@ void fence_clock(int order);
 /* --- stand_shadow.c: who touched which plain memory last --- */
 
 typedef enum AccessKind { ACCESS_READ = 0, ACCESS_WRITE = 1, ACCESS_ATOMIC = 2, ACCESS_FREED = 4 } AccessKind;
-void begin_shadow(void);
 void touch(uintptr_t at, size_t size, unsigned kind, uintptr_t pc);
 void mark_freed(uintptr_t at, size_t size, uintptr_t pc);
 void forget_memory(uintptr_t at, size_t size);

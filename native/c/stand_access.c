@@ -3,7 +3,7 @@
  * access is no step: it is looked at for races. With --plain steps and racy, at the places that earlier runs
  * found, it is a step, too.
  */
-#include "stand.h"
+#include "stand_shadow.h"
 
 #include <string.h>
 
@@ -27,8 +27,8 @@ static void step_at(uintptr_t at, size_t size, bool is_write, uintptr_t pc) {
     looked(value, 3);
 }
 
-static inline void access_memory(uintptr_t at, size_t size, unsigned kind, uintptr_t pc) {
-    if (!is_tested() || shared->plan.plain == PLAIN_OFF) return;
+static __attribute__((noinline)) void look_at(uintptr_t at, size_t size, unsigned kind, uintptr_t pc) {
+    if (shared->plan.plain == PLAIN_OFF) return;
     shared->plain_accesses++;
     if (!has_others) {
         has_others = seat_count() > 1;
@@ -36,9 +36,15 @@ static inline void access_memory(uintptr_t at, size_t size, unsigned kind, uintp
     }
     if (shared->plan.plain >= PLAIN_STEPS && shared->plan.is_frozen && is_learned(pc))
         step_at(at, size, kind & ACCESS_WRITE, pc);
-    else
+    else if (self.budget <= 0)
         count_access();
     touch(at, size, kind, pc);
+}
+
+static inline void access_memory(uintptr_t at, size_t size, unsigned kind, uintptr_t pc) {
+    if (!is_tested()) return;
+    if (LIKELY(--self.budget > 0 && size <= 8 && is_seen(at, (uint32_t)size, kind))) return;
+    look_at(at, size, kind, pc);
 }
 
 #define PC ((uintptr_t)__builtin_return_address(0))

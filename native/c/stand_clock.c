@@ -50,7 +50,7 @@ void join_clock(Clock *to, const Clock *from) {
         if (from->at[t] > to->at[t]) to->at[t] = from->at[t];
 }
 
-static void next_epoch(void) { mine()->clock.at[self.seat]++; }
+void next_epoch(void) { self.epoch = ++mine()->clock.at[self.seat]; }
 
 void acquire(const volatile void *at) {
     Sync *sync = sync_at(at, false);

@@ -125,6 +125,7 @@ int64_t ask(uint32_t kind, uint32_t object, const char *what, const volatile voi
     }
     int64_t answer = bring(kind, object, what, at);
     count_in_row();
+    begin_budget();
     return answer;
 }
 
@@ -258,10 +259,14 @@ void give_way(void) {
     rest("gives way");
 }
 
+/* Only where plain accesses are looked at for races alone is there no more to do of most of them. */
+void begin_budget(void) { self.budget = shared->plan.plain == PLAIN_RACES ? MOST_PLAIN : 0; }
+
 void count_access(void) {
-    if (++mine()->plain_in_row <= MOST_PLAIN || is_alone()) return;
-    mine()->plain_in_row = 0;
-    rest("computes long, and rests");
+    bool is_long = shared->plan.plain == PLAIN_RACES || -self.budget > MOST_PLAIN;
+    if (!is_long) return;
+    begin_budget();
+    if (!is_alone()) rest("computes long, and rests");
 }
 
 void step(const char *what, const volatile void *at) {

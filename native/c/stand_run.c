@@ -84,10 +84,10 @@ EXPORT void abort(void) {
 void begin_run(void) {
     set_files();
     stay_here();
-    begin_shadow();
     begin_clocks();
     open_book();
     begin_threads();
+    next_epoch();
     watch_deaths();
     mallopt(M_ARENA_MAX, 1);
 }

@@ -5,38 +5,16 @@
  *
  * Cells lie in regions of a megabyte of the program's memory, which are made when they are first touched.
  */
-#include "stand.h"
+#include "stand_shadow.h"
 
 #include <string.h>
 #include <sys/mman.h>
 
-#define REGION_BITS 20
-#define REGIONS 4096 /* a power of two */
-#define CELLS 4
-
-typedef struct Cell {
-    uintptr_t pc; /* of freed memory, where it was freed */
-    uint32_t epoch;
-    uint8_t thread, mask, kind, unused; /* mask: the bytes, none where the cell is empty */
-} Cell;
-typedef struct Granule {
-    Cell cells[CELLS];
-} Granule;
-
-typedef struct Region {
-    uintptr_t key; /* one more than the address of the megabyte */
-    Granule *granules;
-} Region;
-static Region *regions;
+Region regions[REGIONS];
 
 static void *reserve(size_t bytes) {
     void *at = mmap(NULL, bytes, PROT_READ | PROT_WRITE, MAP_PRIVATE | MAP_ANONYMOUS | MAP_NORESERVE, -1, 0);
     return at == MAP_FAILED ? NULL : at;
-}
-
-void begin_shadow(void) {
-    static Region all[REGIONS];
-    regions = all;
 }
 
 static Granule *new_region(Region *region, uintptr_t key) {
@@ -154,24 +132,13 @@ static void put_cell(Granule *granule, const Cell *new, uintptr_t at) {
     *to = *new;
 }
 
-/* The bytes of one granule. Of one access again by the same thread nothing is to be done. */
-static inline void touch_part(uintptr_t at, uint32_t size, unsigned kind, uintptr_t pc) {
-    Granule *granule = granule_at(at);
-    uint8_t mask = (uint8_t)(((1U << size) - 1) << (at & 7)), thread = (uint8_t)self.seat;
-    const Cell *first = granule->cells;
-    uint32_t epoch = mine()->clock.at[thread];
-    if (LIKELY(first->thread == thread && first->epoch == epoch && first->mask == mask &&
-               first->kind >= kind && first->kind <= ACCESS_WRITE))
-        return;
-    Cell new = { .pc = pc, .epoch = epoch, .thread = thread, .mask = mask, .kind = (uint8_t)kind };
-    put_cell(granule, &new, at);
-}
-
 void touch(uintptr_t at, size_t size, unsigned kind, uintptr_t pc) {
+    Cell new = { .pc = pc, .epoch = self.epoch, .thread = (uint8_t)self.seat, .kind = (uint8_t)kind };
     for (size_t done = 0; done < size;) {
         uint32_t part = 8 - (uint32_t)((at + done) & 7);
         if (part > size - done) part = (uint32_t)(size - done);
-        touch_part(at + done, part, kind, pc);
+        new.mask = mask_of(at + done, part);
+        put_cell(granule_at(at + done), &new, at + done);
         done += part;
     }
 }
@@ -180,7 +147,7 @@ bool is_freed(uintptr_t at) { return granule_at(at)->cells[0].kind & ACCESS_FREE
 
 void mark_freed(uintptr_t at, size_t size, uintptr_t pc) {
     for (uintptr_t i = at; i < at + size; i += 8)
-        granule_at(i)->cells[0] = (Cell){ .pc = pc, .thread = (uint8_t)self.seat, .mask = 255, .kind = ACCESS_FREED };
+        *granule_at(i) = (Granule){ .cells[0] = { .pc = pc, .thread = (uint8_t)self.seat, .mask = 255, .kind = ACCESS_FREED } };
 }
 
 void forget_memory(uintptr_t at, size_t size) {

@@ -97,6 +97,8 @@ static void *begin(void *argument) {
     s->stack_low = (uintptr_t)low;
     s->stack_high = (uintptr_t)low + size;
     wait_for_baton(seat);
+    next_epoch();
+    begin_budget();
     begin_end_key();
     return s->function(s->argument);
 }
@@ -123,7 +125,7 @@ static void prepare(Seat *s, const pthread_attr_t *attr, void *(*function)(void 
     s->wait = WAITS_FOR_NOTHING;
     s->born = ++s->clock.at[seat];
     join_clock(&s->clock, &mine()->clock);
-    mine()->clock.at[self.seat]++;
+    next_epoch();
     shared->functions[seat] = function_of(function, argument);
 }
 

@@ -8,6 +8,7 @@ import shutil
 import sys
 from collections.abc import Sequence
 
+from pcthunt.output import keep, put
 from pcttry import tracefile
 from pcttry.report import Report, sentence
 from pcttry.runner import End, Refused, Run, Runner
@@ -64,9 +65,12 @@ def command_of(words: Sequence[str]) -> list[str]:
     return [path, *words[1:]]
 
 
+def say(line: str) -> None:
+    put(f"{line}\n")
+
+
 def again(runner: Runner, run: Run) -> Run:
     """The run once more, with what it prints seen."""
-    sys.stdout.flush()
     runner.set("loud", 1)
     repeated = runner.run(run.seed, run.depth)
     runner.set("loud", 0)
@@ -95,15 +99,14 @@ def tell(command: Sequence[str], search: Search, found: Found, run: Run, words: 
     told = runner.tell()
     modules = runner.modules()
     report = Report(repeated, told, Symbols(modules, command[0]))
-    print(f"{run_name(repeated)}: " + "\n".join(report.lines(words.lanes)))
+    say(f"{run_name(repeated)}: " + "\n".join(report.lines(words.lanes)))
     if repeated != run:
-        print("the run isn't the same when it is made again: the program reads something that changes from run to run")
+        say("the run isn't the same when it is made again: the program reads something that changes from run to run")
     path = words.trace or f"{title(command)}.pcttrace"
     trace = tracefile.trace_of(command, repeated, found.n, found.k, search.settings, told, modules,
                                sentence(repeated, told))
-    with open(path, "w", encoding="utf-8") as file:
-        file.write(tracefile.text_of(trace))
-    print(f"the trace is in {path}; again: pct-try --replay {path}")
+    keep(path, tracefile.text_of(trace))
+    say(f"the trace is in {path}; again: pct-try --replay {path}")
 
 
 def search_for(command: list[str], words: argparse.Namespace) -> int:
@@ -114,9 +117,9 @@ def search_for(command: list[str], words: argparse.Namespace) -> int:
         failing = sorted(found.failing, key=lambda run: (run.steps, run.seed, run.depth))
         if not failing and found.declared:
             failing = [found.declared]
-            print(f"{title(command)}: the declared order fails, and no run of a seed does; n {found.n}, k {found.k}")
+            say(f"{title(command)}: the declared order fails, and no run of a seed does; n {found.n}, k {found.k}")
         else:
-            print(summary(command, found))
+            say(summary(command, found))
         if failing:
             tell(command, search, found, failing[0], words)
         return 1 if failing else 0
@@ -143,10 +146,10 @@ def replay(path: str, words: argparse.Namespace) -> int:
         run = again(runner, Run(trace.seed, trace.depth, End.GOES, 0, 0, 0, ""))
         told = runner.tell()
         report = Report(run, told, Symbols(modules, command[0]))
-        print("\n".join(report.lanes()))
-        print("verdict " + "\n".join(report.lines(False)))
+        say("\n".join(report.lanes()))
+        say("verdict " + "\n".join(report.lines(False)))
         if sentence(run, told) != trace.verdict:
-            print(f"the trace's was: {trace.verdict}")
+            say(f"the trace's was: {trace.verdict}")
         return 1 if search.has_failed(run) else 0
     finally:
         runner.close()
