@@ -12,7 +12,7 @@
 #define MOST_IN_ROW 500        /* steps of one thread, while others could go */
 #define MOST_PLAIN 20000       /* accesses without a step */
 #define MOST_FRUITLESS 1000    /* wakings after which nothing changed */
-#define MOST_ALONE 3000000     /* looks of a thread while no other can go */
+#define MOST_ALONE 1000000     /* looks of a thread while no other can go */
 #define MOST_EARLY 2           /* waits of a thread that end early */
 
 static uint64_t stamps, last_event, now_, chance;
@@ -243,6 +243,7 @@ static Seen *seen_here(uint64_t value) {
 
 void looked(uint64_t value, uint32_t most) {
     if (is_solo) {
+        shared->moves++;
         if (++alone_looks > MOST_ALONE) end_run(LIVELOCK, "a thread looks again and again, and no other can go");
         return;
     }

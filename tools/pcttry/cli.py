@@ -9,7 +9,7 @@ import sys
 from collections.abc import Sequence
 
 from pcthunt.output import keep, put
-from pcttry import tracefile
+from pcttry import ignored, tracefile
 from pcttry.report import Report, sentence
 from pcttry.runner import End, Refused, Run, Runner
 from pcttry.search import Found, Search, Settings
@@ -36,6 +36,9 @@ def arguments() -> argparse.ArgumentParser:
     add("--plain", choices=list(PLAIN), default="races",
         help="of accesses of plain memory: races fail a run (races); each of memory that threads share is a step "
              "(steps), or each that races (racy); nothing (off)")
+    add("--ignore", metavar="FILE", help="races at the places of these patterns are no failure")
+    add("--preload", action="store_true",
+        help="a program that wasn't compiled by pct-cc: its locks, waits and threads are steps, and no race is seen")
     add("--timeouts", choices=["late", "any"], default="late",
         help="late: a wait times out where nobody else can go; any: also earlier")
     add("--chaos", action="store_true",
@@ -51,7 +54,9 @@ def arguments() -> argparse.ArgumentParser:
 
 def settings_of(words: argparse.Namespace) -> Settings:
     return Settings(seeds=words.seeds, depth=words.depth, start=words.start, jobs=max(1, words.jobs),
-                    any_status=words.status == "any", plain=PLAIN[words.plain], reuse=words.reuse,
+                    any_status=words.status == "any", reuse=words.reuse,
+                    plain=0 if words.preload else PLAIN[words.plain],
+                    patterns=ignored.read(words.ignore) if words.ignore else [],
                     timeouts=words.timeouts == "any", chaos=words.chaos, limit=words.limit, patience=words.patience,
                     threads=words.threads, steps=words.steps)
 
@@ -63,6 +68,18 @@ def command_of(words: Sequence[str]) -> list[str]:
     if not path or not os.access(path, os.X_OK) or os.path.isdir(path):
         raise Refused(f"{words[0]}: there is no such program")
     return [path, *words[1:]]
+
+
+def library() -> str:
+    """The runtime, in the checkout or below the prefix of these files."""
+    here = os.path.dirname(os.path.dirname(os.path.realpath(__file__)))
+    folders = [os.environ.get("PCT_LIB_DIR", ""), os.path.join(os.path.dirname(here), "lib"),
+               os.path.join(here, "..", "..", "..", "lib")]
+    found = [os.path.join(folder, "libpct_stand.so") for folder in folders if folder]
+    there = [os.path.realpath(path) for path in found if os.path.exists(path)]
+    if not there:
+        raise Refused(f"{found[-2]} is missing")
+    return there[0]
 
 
 def say(line: str) -> None:
@@ -93,6 +110,13 @@ def run_name(run: Run) -> str:
     return f"{where}, {run.steps} steps"
 
 
+def refuse_unfit(search: Search, run: Run) -> None:
+    """What the runtime refuses is no failure of the program."""
+    if run.end in (End.REFUSED, End.LAYER_FAULT):
+        search.runners[0].run(run.seed, run.depth)
+        raise Refused(search.runners[0].tell().told)
+
+
 def tell(command: Sequence[str], search: Search, found: Found, run: Run, words: argparse.Namespace) -> None:
     runner = search.runners[0]
     repeated = again(runner, run)
@@ -111,9 +135,12 @@ def tell(command: Sequence[str], search: Search, found: Found, run: Run, words: 
 
 def search_for(command: list[str], words: argparse.Namespace) -> int:
     settings = settings_of(words)
-    search = Search([Runner(command) for _ in range(settings.jobs)], settings)
+    preload = library() if words.preload else None
+    search = Search([Runner(command, preload) for _ in range(settings.jobs)], settings)
     try:
         found = search.run()
+        for run in found.failing:
+            refuse_unfit(search, run)
         failing = sorted(found.failing, key=lambda run: (run.steps, run.seed, run.depth))
         if not failing and found.declared:
             failing = [found.declared]
@@ -132,7 +159,7 @@ def replay(path: str, words: argparse.Namespace) -> int:
     """By the list of threads: a program that was changed since may go on by it, or departs from it."""
     trace = tracefile.read(path)
     command = command_of(words.program or trace.command)
-    runner = Runner(command)
+    runner = Runner(command, library() if words.preload else None)
     search = Search([runner], tracefile.settings_of(trace))
     try:
         search.begin()

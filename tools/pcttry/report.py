@@ -2,6 +2,7 @@
 
 from __future__ import annotations
 
+import re
 import signal
 from collections.abc import Iterator
 
@@ -9,6 +10,8 @@ from pcttry.runner import Access, End, Run, Step, Told
 from pcttry.symbols import Symbols
 
 WIDTH = 18
+# The function around a lambda, and the lambda's number in it.
+LAMBDA = re.compile(r"(\w+)(?:\([^{}]*\))?(?: const)?::\{lambda[^{}]*#(\d+)\}")
 # Steps by which one thread wakes another, with the thread's number as what they ask.
 WAKES = 14
 
@@ -162,10 +165,9 @@ def signed(value: int) -> int:
 
 def short_name(name: str) -> str:
     """A function's name without its parameters, templates and scopes; a lambda by where it stands."""
-    if "{lambda" in name:
-        scope = name[:name.rfind("{lambda")].rstrip(":").split("(")[0].rsplit("::", 1)[-1]
-        number = name[name.rfind("#") + 1:].split("}")[0]
-        return f"{scope}_lambda_{number}" if scope else f"lambda_{number}"
+    found = LAMBDA.findall(name)
+    if found:
+        return "{}_lambda_{}".format(*found[-1])
     depth, kept = 0, []
     for letter in name.split("(")[0]:
         depth += letter == "<"

@@ -6,7 +6,9 @@ from collections import deque
 from collections.abc import Iterator
 from dataclasses import dataclass, field
 
-from pcttry.runner import End, Run, Runner, Refused, run_of
+from pcttry.ignored import ignored_of
+from pcttry.runner import End, Refused, Run, Runner, run_of
+from pcttry.symbols import Symbols
 
 FAILING = 20      # runs, after which a search ends
 FURTHER = 300     # seeds that are still tried after the first failure
@@ -30,7 +32,7 @@ class Settings:
     patience: int = 10
     threads: int = 0
     steps: int = 0
-    ignored: list[int] = field(default_factory=list)
+    patterns: list[str] = field(default_factory=list)  # places whose races are no failure
 
     def depths(self) -> tuple[int, int]:
         return (self.depth, self.depth) if self.depth else (1, 3)
@@ -65,9 +67,6 @@ class Search:
         for name, value in (("plain", settings.plain), ("reuse", settings.reuse), ("early", settings.timeouts),
                             ("chaos", settings.chaos), ("limit", settings.limit), ("patience", settings.patience)):
             self.set(name, int(value))
-        for runner in self.runners:
-            for address in settings.ignored:
-                runner.send(f"ignore {address:x}")
 
     def has_failed(self, run: Run) -> bool:
         if self.settings.any_status and run.end == End.GOES and run.status & 127 == 0:
@@ -155,5 +154,20 @@ class Search:
             if run.end in (End.REFUSED, End.LAYER_FAULT):
                 raise Refused(self.runners[0].tell().told)
             found = self.seeds(Found(self.n, k, declared=run if self.has_failed(run) else None))
-            if found.n == self.n:
+            if found.n == self.n and not self.ignore_more(found):
                 return found
+
+    def ignore_more(self, found: Found) -> bool:
+        """Whether some of the races that were found are to be ignored: then all begins anew without them."""
+        if not self.settings.patterns:
+            return False
+        runner, more = self.runners[0], set[int]()
+        symbols = Symbols(runner.modules(), runner.command[0])
+        for run in [*found.failing, *([found.declared] if found.declared else [])]:
+            if run.end == End.RACE:
+                runner.run(run.seed, run.depth)
+                more |= set(ignored_of(runner.tell().accesses, self.settings.patterns, symbols))
+        for address in more:
+            for each in self.runners:
+                each.send(f"ignore {address:x}")
+        return bool(more)
