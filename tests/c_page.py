@@ -1,4 +1,4 @@
-"""docs/c.md as its reader has it: the archive that ./dist makes, and the page's lines run beside it."""
+"""A page, docs/c.md or another, as its reader has it: the archive that ./dist makes, and its lines run beside it."""
 
 from __future__ import annotations
 
@@ -11,9 +11,9 @@ from unpacked import unpacked
 
 
 class Page:
-    """The archive that ./dist makes, unpacked, and an empty folder in which docs/c.md's lines are run."""
+    """The archive that ./dist makes, unpacked, and an empty folder in which the page's lines are run."""
 
-    def __init__(self, room: str) -> None:
+    def __init__(self, room: str, name: str = "c.md") -> None:
         self.folder = os.path.join(room, "alone")
         os.mkdir(self.folder)
         prefix = unpacked(pathlib.Path(room))
@@ -21,7 +21,7 @@ class Page:
             raise RuntimeError("./dist made no archive")
         library = os.path.join(prefix, "lib")
         self.paths = {"PKG_CONFIG_PATH": os.path.join(library, "pkgconfig"), "LD_LIBRARY_PATH": library}
-        with open(os.path.join(prefix, "share", "doc", "pct", "docs", "c.md"), encoding="utf-8") as file:
+        with open(os.path.join(prefix, "share", "doc", "pct", "docs", name), encoding="utf-8") as file:
             self.text = file.read().replace("/usr/local", str(prefix))
 
     def blocks(self, kind: str) -> list[str]:

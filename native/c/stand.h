@@ -95,6 +95,7 @@ typedef struct Shared {
     End end;
     char told[512];
     uint32_t step_count, seat_count, accesses_told;
+    uint32_t points[PCT_MOST_POINTS]; /* after whose steps threads are lowered; 0 where there is none */
     uint64_t moves;             /* so often something was asked, in all runs: the watchdog's */
     uint64_t hash;              /* of the steps and the values that they read */
     uint64_t plain_accesses, early_ends;

@@ -165,16 +165,16 @@ static void bring_free(uint32_t seat) {
 static uint32_t make_book(void) {
     static const int64_t none[MOST_SEATS];
     const Plan *plan = &shared->plan;
-    uint32_t n = plan->seats, order[MOST_SEATS], points[PCT_MOST_POINTS], count = plan->depth ? plan->depth - 1 : 0;
+    uint32_t n = plan->seats, order[MOST_SEATS], count = plan->depth ? plan->depth - 1 : 0;
     PctDeal deal = { n, MOST_SEATS, 0, MOST_SEATS };
     if (plan->listed)
         return pct_book_by_list(&book, &deal, NULL, 0, none, n, NULL, 0, shared->list, plan->listed, plan->limit);
     for (uint32_t t = 0; t < n; t++) order[t] = t;
     if (plan->depth) {
-        uint32_t refused = pct_draw(plan->seed, n, plan->steps, plan->depth, order, n, points, count);
+        uint32_t refused = pct_draw(plan->seed, n, plan->steps, plan->depth, order, n, shared->points, count);
         if (refused) return refused;
     }
-    return pct_book_by_points(&book, &deal, NULL, 0, none, n, NULL, 0, order, n, points, count, plan->limit);
+    return pct_book_by_points(&book, &deal, NULL, 0, none, n, NULL, 0, order, n, shared->points, count, plan->limit);
 }
 
 void open_book(void) {

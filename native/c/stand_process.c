@@ -49,6 +49,7 @@ static void clear_run(void) {
     shared->seat_count = 1;
     shared->hash = 14695981039346656037U;
     shared->status = 0;
+    memset(shared->points, 0, sizeof shared->points);
     memset(shared->waiting, 0, sizeof shared->waiting);
 }
 

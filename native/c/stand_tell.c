@@ -30,6 +30,8 @@ static void write_access(FILE *to, const Access *access) {
 
 void write_run(FILE *to) {
     fprintf(to, "told %s\n", shared->told);
+    for (uint32_t i = 0; i < PCT_MOST_POINTS; i++)
+        if (shared->points[i]) fprintf(to, "point %u\n", shared->points[i]);
     for (uint32_t i = 0; i < shared->accesses_told; i++) write_access(to, &shared->accesses[i]);
     for (uint32_t t = 0; t < shared->seat_count; t++) {
         fprintf(to, "thread %u %" PRIxPTR "\n", t, shared->functions[t]);

@@ -77,7 +77,7 @@ static void leave(void *rounds) {
     changed();
     if (!s->is_detached) keep_ended(s);
     if (live_count() == 1) exit(0);
-    wake_all(&s->real, "ends, for"); /* who joins it waits for the real thread: no step follows */
+    wake_all(&s->real, "wakes"); /* who joins it waits for the real thread: no step follows */
     leave_to_others();
 }
 

@@ -102,7 +102,7 @@ class Report:
         if len(threads) > 4:
             yield from self.rows()
             return
-        texts = [self.what(step) for step in self.told.steps]
+        texts = self.texts()
         width = max([WIDTH, *map(len, texts)]) + 2
         yield "  step  " + "".join(self.name(thread).ljust(width) for thread in threads) + "place"
         for number, (step, text) in enumerate(zip(self.told.steps, texts, strict=True), 1):
@@ -110,9 +110,15 @@ class Report:
             row = " " * (lane * width) + text
             yield f"{number:6}  {row.ljust(len(threads) * width - 1)} {self.place(step.frames)}".rstrip()
 
+    def texts(self) -> list[str]:
+        """Of each step its words, with the change points after it."""
+        points = self.told.points
+        marks = {number: "".join(f" v{i + 1}" for i, it in enumerate(points) if it == number) for number in points}
+        return [self.what(step) + marks.get(number, "") for number, step in enumerate(self.told.steps, 1)]
+
     def rows(self) -> Iterator[str]:
-        for number, step in enumerate(self.told.steps, 1):
-            yield f"{number:6}  {self.name(step.thread)}: {self.what(step)}  {self.place(step.frames)}".rstrip()
+        for number, (step, text) in enumerate(zip(self.told.steps, self.texts(), strict=True), 1):
+            yield f"{number:6}  {self.name(step.thread)}: {text}  {self.place(step.frames)}".rstrip()
 
     def access(self, access: Access, word: str) -> Iterator[str]:
         verb = ("atomic " if access.is_atomic else "") + word

@@ -79,6 +79,7 @@ class Told:
     accesses: list[Access] = field(default_factory=list)
     functions: dict[int, int] = field(default_factory=dict)
     waiting: list[Step] = field(default_factory=list)
+    points: list[int] = field(default_factory=list)
     learned: list[int] = field(default_factory=list)
     steps: list[Step] = field(default_factory=list)
 
@@ -120,6 +121,8 @@ def told_of(lines: Sequence[str]) -> Told:
             told.functions[int(words[0])] = int(words[1], 16)
         elif word == "waiting":
             told.waiting.append(step_of(words))
+        elif word == "point":
+            told.points.append(int(words[0]))
         elif word == "learned":
             told.learned.append(int(words[0], 16))
         else:
