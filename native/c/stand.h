@@ -1,15 +1,16 @@
 /*
  * Programs as they stand under the scheduler: what the files stand_*.c share.
  *
- * A program is compiled with -fsanitize=thread and linked with these files in place of libtsan (tools/cc).
- * Under pct-try its main runs in a child process for each run (stand_process.c), and its real threads run
- * one at a time. Each has a seat, which is a thread of the library's book: it brings what it asks next, and
- * the book says who goes (stand_baton.c). What the compiler put before each access of memory comes to
- * stand_access.c and stand_atomic.c, what the program calls of POSIX, C11 and C++ to the other files. Without
- * pct-try all of it hands on to what it stands for.
+ * A program is compiled with -fsanitize=thread and linked with these files in place of libtsan
+ * (tools/cc). Under pct-try its main runs in a child process for each run (stand_process.c), and
+ * its real threads run one at a time. Each has a seat, which is a thread of the library's book: it
+ * brings what it asks next, and the book says who goes (stand_baton.c). What the compiler put
+ * before each access of memory comes to stand_access.c and stand_atomic.c, what the program calls
+ * of POSIX, C11 and C++ to the other files. Without pct-try all of it hands on to what it stands
+ * for.
  *
- * stand_baton.c and stand_process.c know nothing of instrumentation: a layer with calls of its own, as
- * pct_test.c, could stand on them.
+ * stand_baton.c and stand_process.c know nothing of instrumentation: a layer with calls of its own,
+ * as pct_test.c, could stand on them.
  */
 #ifndef PCT_STAND_H
 #define PCT_STAND_H
@@ -24,8 +25,8 @@
 #include <time.h>
 
 #define MOST_SEATS PCT_MOST_THREADS
-#define MOST_FRAMES 12   /* return addresses that a step keeps, from the innermost */
-#define MOST_CALLS 256   /* calls of a thread that are known at a time; a power of two */
+#define MOST_FRAMES 12    /* return addresses that a step keeps, from the innermost */
+#define MOST_CALLS 256    /* calls of a thread that are known at a time; a power of two */
 #define MOST_LEARNED 4096 /* places of accesses that are steps; a power of two */
 #define NOBODY UINT32_MAX
 #define BIT(n) ((uint64_t)1 << (n))
@@ -34,11 +35,11 @@
 #define NANOSECONDS 1000000000U /* of a second */
 
 /* The function that the runtime stands before. */
-#define REAL(name)                                                    \
-    ({                                                                \
-        static __typeof__(&name) real_;                               \
+#define REAL(name)                                                      \
+    ({                                                                  \
+        static __typeof__(&name) real_;                                 \
         if (!real_) real_ = (__typeof__(&name))dlsym(RTLD_NEXT, #name); \
-        real_;                                                        \
+        real_;                                                          \
     })
 
 /* How a run ended. GOES is left where the program ended by itself: its status says more then. */
@@ -95,13 +96,15 @@ typedef struct Shared {
     End end;
     char told[512];
     uint32_t step_count, seat_count, accesses_told;
-    uint32_t points[PCT_MOST_POINTS]; /* after whose steps threads are lowered; 0 where there is none */
-    uint64_t moves;             /* so often something was asked, in all runs: the watchdog's */
-    uint64_t hash;              /* of the steps and the values that they read */
+    uint32_t
+        points[PCT_MOST_POINTS]; /* after whose steps threads are lowered; 0 where there is none */
+    uint64_t moves;              /* so often something was asked, in all runs: the watchdog's */
+    uint64_t hash;               /* of the steps and the values that they read */
     uint64_t plain_accesses, early_ends;
-    uint32_t status;            /* of the process, as wait gives it */
-    Access accesses[2];         /* of a race; of a use after free the use and the free */
-    Step waiting[MOST_SEATS];   /* what each thread asks at the end; kind PCT_ASK_NONE where nothing */
+    uint32_t status;    /* of the process, as wait gives it */
+    Access accesses[2]; /* of a race; of a use after free the use and the free */
+    Step
+        waiting[MOST_SEATS]; /* what each thread asks at the end; kind PCT_ASK_NONE where nothing */
     uintptr_t functions[MOST_SEATS];
     uint32_t learned_count, ignored_count;
     uintptr_t learned[MOST_LEARNED], ignored[MOST_LEARNED];
@@ -158,8 +161,8 @@ typedef struct Seat {
 } Seat;
 extern Seat seats[MOST_SEATS];
 
-/* The thread that runs this code: its seat, or -1 outside of a run; where the runtime was called from; and
-   the calls that led there, of which the last MOST_CALLS are kept. */
+/* The thread that runs this code: its seat, or -1 outside of a run; where the runtime was called
+   from; and the calls that led there, of which the last MOST_CALLS are kept. */
 typedef struct Self {
     int32_t seat;
     uint32_t depth;
@@ -204,8 +207,8 @@ void keep_frames(uintptr_t *frames);
 
 /* --- stand_rest.c: who goes when nobody can; looks again and again; time --- */
 
-/* A step on an object of the book. Where it would leave nobody who can go, who waits for a change or for a
-   time goes first. */
+/* A step on an object of the book. Where it would leave nobody who can go, who waits for a change
+   or for a time goes first. */
 int64_t ask(uint32_t kind, uint32_t object, const char *what, const volatile void *at);
 /* The end of a thread, as leave_seat. */
 void leave_to_others(void);
@@ -228,7 +231,8 @@ void wait_until(uint64_t deadline);
 /* Until it is woken: whether its time has run out first. */
 bool finish_wait(const char *what, const volatile void *at);
 void wake(uint32_t seat, const char *what);
-/* Who has waited longest at the address, or NOBODY. A mask that isn't 0 must have a bit in common. */
+/* Who has waited longest at the address, or NOBODY. A mask that isn't 0 must have a bit in common.
+ */
 uint32_t waiter_at(const volatile void *at, uint32_t mask);
 uint32_t wake_all(const volatile void *at, const char *what);
 uint64_t virtual_now(void);
@@ -249,7 +253,12 @@ void fence_clock(int order);
 
 /* --- stand_shadow.c: who touched which plain memory last --- */
 
-typedef enum AccessKind { ACCESS_READ = 0, ACCESS_WRITE = 1, ACCESS_ATOMIC = 2, ACCESS_FREED = 4 } AccessKind;
+typedef enum AccessKind {
+    ACCESS_READ = 0,
+    ACCESS_WRITE = 1,
+    ACCESS_ATOMIC = 2,
+    ACCESS_FREED = 4
+} AccessKind;
 void touch(uintptr_t at, size_t size, unsigned kind, uintptr_t pc);
 void mark_freed(uintptr_t at, size_t size, uintptr_t pc);
 void forget_memory(uintptr_t at, size_t size);
@@ -259,7 +268,8 @@ bool is_learned(uintptr_t pc);
 /* --- stand_lock.c --- */
 
 int lock_at(const volatile void *at, unsigned kind, bool is_try, const char *what);
-int lock_until(const volatile void *at, unsigned kind, const struct timespec *until, clockid_t clock, const char *what);
+int lock_until(const volatile void *at, unsigned kind, const struct timespec *until,
+               clockid_t clock, const char *what);
 int unlock_at(const volatile void *at, unsigned kind, const char *what);
 /* Of a lock that is let go whole for a wait: how deep it was held, and that again. */
 uint32_t let_go(const volatile void *at, const char *what);
@@ -287,7 +297,8 @@ Object *object_at(const volatile void *at);
 
 /* --- stand_wait.c --- */
 
-int cond_wait_at(const volatile void *cond, const volatile void *mutex, const struct timespec *until, clockid_t clock);
+int cond_wait_at(const volatile void *cond, const volatile void *mutex,
+                 const struct timespec *until, clockid_t clock);
 void cond_signal_at(const volatile void *cond);
 void cond_broadcast_at(const volatile void *cond);
 int once_at(const volatile void *once, void (*function)(void));

@@ -1,7 +1,7 @@
 /*
- * What the compiler puts before each access of plain memory, and at the begin and end of each function. An
- * access is no step: it is looked at for races. With --plain steps and racy, at the places that earlier runs
- * found, it is a step, too.
+ * What the compiler puts before each access of plain memory, and at the begin and end of each
+ * function. An access is no step: it is looked at for races. With --plain steps and racy, at the
+ * places that earlier runs found, it is a step, too.
  */
 #include "stand_shadow.h"
 
@@ -27,7 +27,8 @@ static void step_at(uintptr_t at, size_t size, bool is_write, uintptr_t pc) {
     looked(value, 3);
 }
 
-static __attribute__((noinline)) void look_at(uintptr_t at, size_t size, unsigned kind, uintptr_t pc) {
+static __attribute__((noinline)) void look_at(uintptr_t at, size_t size, unsigned kind,
+                                              uintptr_t pc) {
     if (shared->plan.plain == PLAIN_OFF) return;
     shared->plain_accesses++;
     if (!has_others) {
@@ -36,8 +37,7 @@ static __attribute__((noinline)) void look_at(uintptr_t at, size_t size, unsigne
     }
     if (shared->plan.plain >= PLAIN_STEPS && shared->plan.is_frozen && is_learned(pc))
         step_at(at, size, kind & ACCESS_WRITE, pc);
-    else if (self.budget <= 0)
-        count_access();
+    else if (self.budget <= 0) count_access();
     touch(at, size, kind, pc);
 }
 
@@ -48,31 +48,58 @@ static inline void access_memory(uintptr_t at, size_t size, unsigned kind, uintp
 }
 
 #define PC ((uintptr_t)__builtin_return_address(0))
-#define ACCESSES(size)                                                                                      \
-    EXPORT void __tsan_read##size(void *at) { access_memory((uintptr_t)at, size, ACCESS_READ, PC); }        \
-    EXPORT void __tsan_write##size(void *at) { access_memory((uintptr_t)at, size, ACCESS_WRITE, PC); }      \
-    EXPORT void __tsan_unaligned_read##size(void *at) { access_memory((uintptr_t)at, size, ACCESS_READ, PC); } \
-    EXPORT void __tsan_unaligned_write##size(void *at) { access_memory((uintptr_t)at, size, ACCESS_WRITE, PC); } \
-    EXPORT void __tsan_volatile_read##size(void *at) { access_memory((uintptr_t)at, size, ACCESS_READ, PC); } \
-    EXPORT void __tsan_volatile_write##size(void *at) { access_memory((uintptr_t)at, size, ACCESS_WRITE, PC); } \
-    EXPORT void __tsan_unaligned_volatile_read##size(void *at) { access_memory((uintptr_t)at, size, ACCESS_READ, PC); } \
-    EXPORT void __tsan_unaligned_volatile_write##size(void *at) { access_memory((uintptr_t)at, size, ACCESS_WRITE, PC); } \
-    EXPORT void __tsan_read_write##size(void *at) { access_memory((uintptr_t)at, size, ACCESS_WRITE, PC); } \
-    EXPORT void __tsan_unaligned_read_write##size(void *at) { access_memory((uintptr_t)at, size, ACCESS_WRITE, PC); }
+#define ACCESSES(size)                                            \
+    EXPORT void __tsan_read##size(void *at) {                     \
+        access_memory((uintptr_t)at, size, ACCESS_READ, PC);      \
+    }                                                             \
+    EXPORT void __tsan_write##size(void *at) {                    \
+        access_memory((uintptr_t)at, size, ACCESS_WRITE, PC);     \
+    }                                                             \
+    EXPORT void __tsan_unaligned_read##size(void *at) {           \
+        access_memory((uintptr_t)at, size, ACCESS_READ, PC);      \
+    }                                                             \
+    EXPORT void __tsan_unaligned_write##size(void *at) {          \
+        access_memory((uintptr_t)at, size, ACCESS_WRITE, PC);     \
+    }                                                             \
+    EXPORT void __tsan_volatile_read##size(void *at) {            \
+        access_memory((uintptr_t)at, size, ACCESS_READ, PC);      \
+    }                                                             \
+    EXPORT void __tsan_volatile_write##size(void *at) {           \
+        access_memory((uintptr_t)at, size, ACCESS_WRITE, PC);     \
+    }                                                             \
+    EXPORT void __tsan_unaligned_volatile_read##size(void *at) {  \
+        access_memory((uintptr_t)at, size, ACCESS_READ, PC);      \
+    }                                                             \
+    EXPORT void __tsan_unaligned_volatile_write##size(void *at) { \
+        access_memory((uintptr_t)at, size, ACCESS_WRITE, PC);     \
+    }                                                             \
+    EXPORT void __tsan_read_write##size(void *at) {               \
+        access_memory((uintptr_t)at, size, ACCESS_WRITE, PC);     \
+    }                                                             \
+    EXPORT void __tsan_unaligned_read_write##size(void *at) {     \
+        access_memory((uintptr_t)at, size, ACCESS_WRITE, PC);     \
+    }
 ACCESSES(1)
 ACCESSES(2)
 ACCESSES(4)
 ACCESSES(8)
 ACCESSES(16)
 
-EXPORT void __tsan_read_range(void *at, unsigned long size) { access_memory((uintptr_t)at, size, ACCESS_READ, PC); }
-EXPORT void __tsan_write_range(void *at, unsigned long size) { access_memory((uintptr_t)at, size, ACCESS_WRITE, PC); }
+EXPORT void __tsan_read_range(void *at, unsigned long size) {
+    access_memory((uintptr_t)at, size, ACCESS_READ, PC);
+}
+EXPORT void __tsan_write_range(void *at, unsigned long size) {
+    access_memory((uintptr_t)at, size, ACCESS_WRITE, PC);
+}
 
-/* An object's table of virtual functions: its constructor and destructor write it, often the same again. */
+/* An object's table of virtual functions: its constructor and destructor write it, often the same
+ * again. */
 EXPORT void __tsan_vptr_update(void **at, void *value) {
     if (*at != value) access_memory((uintptr_t)at, sizeof *at, ACCESS_WRITE, PC);
 }
-EXPORT void __tsan_vptr_read(void **at) { access_memory((uintptr_t)at, sizeof *at, ACCESS_READ, PC); }
+EXPORT void __tsan_vptr_read(void **at) {
+    access_memory((uintptr_t)at, sizeof *at, ACCESS_READ, PC);
+}
 
 EXPORT void __tsan_init(void) {}
 EXPORT void __tsan_ignore_thread_begin(void) {}

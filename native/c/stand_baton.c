@@ -1,10 +1,11 @@
 /*
- * The book of a run and the baton. Who has the baton runs; it goes with the answer of a step to the thread
- * that took it, and comes back with what that thread asks next. An ask is posted when the book waits for it.
+ * The book of a run and the baton. Who has the baton runs; it goes with the answer of a step to the
+ * thread that took it, and comes back with what that thread asks next. An ask is posted when the
+ * book waits for it.
  *
- * A seat that no thread has waits at its own semaphore, which who creates a thread raises; a thread that has
- * ended leaves its seat so. A wait for another thread is one at the own semaphore, too; so only mutexes and
- * read-write locks are the book's.
+ * A seat that no thread has waits at its own semaphore, which who creates a thread raises; a thread
+ * that has ended leaves its seat so. A wait for another thread is one at the own semaphore, too; so
+ * only mutexes and read-write locks are the book's.
  */
 #include "stand.h"
 
@@ -30,7 +31,8 @@ static bool is_held[MOST_SEATS], is_written[MOST_SEATS];
 uint32_t seat_count(void) { return used; }
 uint32_t live_count(void) { return live; }
 
-/* The process of the program itself ends, without its handlers: other threads stand in the midst of calls. */
+/* The process of the program itself ends, without its handlers: other threads stand in the midst of
+ * calls. */
 void end_run(End end, const char *form, ...) {
     va_list words;
     va_start(words, form);
@@ -114,7 +116,8 @@ static void write_step(uint32_t seat) {
     if (turn.status == PCT_ENDED) end_by_book();
 }
 
-/* What the run came to, where the book says that it is over; a run that just ends goes on to exit. */
+/* What the run came to, where the book says that it is over; a run that just ends goes on to exit.
+ */
 static void end_by_book(void) {
     PctOutcome outcome;
     if (pct_book_outcome(&book, &outcome)) end_run(LAYER_FAULT, "the book has no outcome");
@@ -131,7 +134,8 @@ static void end_by_book(void) {
 /* Posts what a seat has brought, which may be its step. */
 static bool post(uint32_t seat) {
     Seat *s = &seats[seat];
-    if (s->state != SEAT_BROUGHT) end_run(LAYER_FAULT, "T%u brought nothing, at step %u", seat, shared->step_count + 1);
+    if (s->state != SEAT_BROUGHT)
+        end_run(LAYER_FAULT, "T%u brought nothing, at step %u", seat, shared->step_count + 1);
     PctAsk asked = ask_of(&s->step);
     s->state = SEAT_POSTED;
     set_turn(pct_book_step(&book, seat, 1, &asked));
@@ -158,7 +162,8 @@ static uint32_t next_seat(void) {
 
 /* A free seat's ask: until a thread is created in it. */
 static void bring_free(uint32_t seat) {
-    seats[seat].step = (Step){ .thread = seat, .kind = PCT_ASK_DOWN, .object = seat, .what = "begins" };
+    seats[seat].step =
+        (Step){ .thread = seat, .kind = PCT_ASK_DOWN, .object = seat, .what = "begins" };
     seats[seat].state = SEAT_BROUGHT;
 }
 
@@ -168,13 +173,16 @@ static uint32_t make_book(void) {
     uint32_t n = plan->seats, order[MOST_SEATS], count = plan->depth ? plan->depth - 1 : 0;
     PctDeal deal = { n, MOST_SEATS, 0, MOST_SEATS };
     if (plan->listed)
-        return pct_book_by_list(&book, &deal, NULL, 0, none, n, NULL, 0, shared->list, plan->listed, plan->limit);
+        return pct_book_by_list(&book, &deal, NULL, 0, none, n, NULL, 0, shared->list, plan->listed,
+                                plan->limit);
     for (uint32_t t = 0; t < n; t++) order[t] = t;
     if (plan->depth) {
-        uint32_t refused = pct_draw(plan->seed, n, plan->steps, plan->depth, order, n, shared->points, count);
+        uint32_t refused =
+            pct_draw(plan->seed, n, plan->steps, plan->depth, order, n, shared->points, count);
         if (refused) return refused;
     }
-    return pct_book_by_points(&book, &deal, NULL, 0, none, n, NULL, 0, order, n, shared->points, count, plan->limit);
+    return pct_book_by_points(&book, &deal, NULL, 0, none, n, NULL, 0, order, n, shared->points,
+                              count, plan->limit);
 }
 
 void open_book(void) {
@@ -201,7 +209,8 @@ static void give_baton(uint32_t seat) {
 }
 
 void wait_for_baton(uint32_t seat) {
-    while (!__atomic_load_n(&seats[seat].gate, __ATOMIC_ACQUIRE)) futex(&seats[seat].gate, FUTEX_WAIT_PRIVATE, 0);
+    while (!__atomic_load_n(&seats[seat].gate, __ATOMIC_ACQUIRE))
+        futex(&seats[seat].gate, FUTEX_WAIT_PRIVATE, 0);
     seats[seat].gate = 0;
 }
 
@@ -215,7 +224,8 @@ static void put_ask(Step asked) {
 
 int64_t bring(uint32_t kind, uint32_t object, const char *what, const volatile void *at) {
     uint32_t seat = (uint32_t)self.seat;
-    put_ask((Step){ .thread = seat, .kind = kind, .object = object, .what = what, .at = (uintptr_t)at });
+    put_ask((Step){
+        .thread = seat, .kind = kind, .object = object, .what = what, .at = (uintptr_t)at });
     uint32_t next = next_seat();
     if (next != seat) {
         give_baton(next);
@@ -228,7 +238,8 @@ int64_t bring(uint32_t kind, uint32_t object, const char *what, const volatile v
 void note_value(uint64_t value) {
     if (self.has_step) shared->steps[shared->step_count - 1].value = value;
     self.has_step = false;
-    mix(value < 1U << 16 ? value : 7); /* greater ones may be addresses, which another load may change */
+    mix(value < 1U << 16 ? value
+                         : 7); /* greater ones may be addresses, which another load may change */
 }
 
 void leave_seat(void) {
@@ -250,7 +261,8 @@ static uint32_t free_seat(void) {
 
 uint32_t take_seat(void) {
     uint32_t seat = free_seat();
-    if (seat == NOBODY) end_run(REFUSED, "more than %d threads at once: a run has at most so many", MOST_SEATS);
+    if (seat == NOBODY)
+        end_run(REFUSED, "more than %d threads at once: a run has at most so many", MOST_SEATS);
     if (seat >= shared->plan.seats) {
         shared->seat_count = seat + 1;
         end_run(MORE_SEATS, "a further thread");

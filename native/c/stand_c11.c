@@ -55,15 +55,19 @@ EXPORT void thrd_exit(int value) {
     pthread_exit((void *)(intptr_t)value);
 }
 
-static unsigned kind_of(mtx_t *mutex) { return (unsigned)((pthread_mutex_t *)mutex)->__data.__kind & 3U; }
+static unsigned kind_of(mtx_t *mutex) {
+    return (unsigned)((pthread_mutex_t *)mutex)->__data.__kind & 3U;
+}
 
 EXPORT int mtx_lock(mtx_t *mutex) {
     ENTER();
-    return is_tested() ? as_c11(lock_at(mutex, kind_of(mutex), false, "lock")) : REAL(mtx_lock)(mutex);
+    return is_tested() ? as_c11(lock_at(mutex, kind_of(mutex), false, "lock"))
+                       : REAL(mtx_lock)(mutex);
 }
 EXPORT int mtx_trylock(mtx_t *mutex) {
     ENTER();
-    return is_tested() ? as_c11(lock_at(mutex, kind_of(mutex), true, "trylock")) : REAL(mtx_trylock)(mutex);
+    return is_tested() ? as_c11(lock_at(mutex, kind_of(mutex), true, "trylock"))
+                       : REAL(mtx_trylock)(mutex);
 }
 EXPORT int mtx_timedlock(mtx_t *mutex, const struct timespec *until) {
     ENTER();
@@ -86,7 +90,8 @@ EXPORT int cnd_wait(cnd_t *cond, mtx_t *mutex) {
     ENTER();
     return is_tested() ? as_c11(cond_wait_at(cond, mutex, NULL, 0)) : REAL(cnd_wait)(cond, mutex);
 }
-EXPORT int cnd_timedwait(cnd_t *restrict cond, mtx_t *restrict mutex, const struct timespec *restrict until) {
+EXPORT int cnd_timedwait(cnd_t *restrict cond, mtx_t *restrict mutex,
+                         const struct timespec *restrict until) {
     ENTER();
     if (!is_tested()) return REAL(cnd_timedwait)(cond, mutex, until);
     return as_c11(cond_wait_at(cond, mutex, until, CLOCK_REALTIME));

@@ -1,8 +1,8 @@
 /*
- * System calls that wait for what another thread of the program writes: pipes, sockets, event descriptors. A
- * read is looked at without waiting, and rests until something changed. Where nobody else can go it really
- * waits, for another process, and a second later the run is refused. All descriptors have one clock, so a race
- * that only their order hides isn't told.
+ * System calls that wait for what another thread of the program writes: pipes, sockets, event
+ * descriptors. A read is looked at without waiting, and rests until something changed. Where nobody
+ * else can go it really waits, for another process, and a second later the run is refused. All
+ * descriptors have one clock, so a race that only their order hides isn't told.
  */
 #include "stand.h"
 
@@ -37,7 +37,8 @@ static void await(int descriptor, short events, const char *what) {
     while (does_wait && !is_ready(descriptor, events, 0)) {
         rest("waits for a descriptor");
         if (is_alone() && !is_ready(descriptor, events, OUTSIDE_WAIT))
-            end_run(REFUSED, "a read of descriptor %d waits for something outside of the program", descriptor);
+            end_run(REFUSED, "a read of descriptor %d waits for something outside of the program",
+                    descriptor);
     }
     acquire(&all_descriptors);
 }
@@ -112,7 +113,8 @@ EXPORT int poll(struct pollfd *list, nfds_t count, int timeout) {
     int found = REAL(poll)(list, count, 0);
     while (found == 0 && look_again(timeout)) {
         found = REAL(poll)(list, count, is_alone() ? OUTSIDE_WAIT : 0);
-        if (found == 0 && is_alone()) end_run(REFUSED, "a poll waits for something outside of the program");
+        if (found == 0 && is_alone())
+            end_run(REFUSED, "a poll waits for something outside of the program");
     }
     acquire(&all_descriptors);
     return found;
@@ -124,7 +126,8 @@ EXPORT int epoll_wait(int descriptor, struct epoll_event *events, int most, int 
     int found = REAL(epoll_wait)(descriptor, events, most, 0);
     while (found == 0 && look_again(timeout)) {
         found = REAL(epoll_wait)(descriptor, events, most, is_alone() ? OUTSIDE_WAIT : 0);
-        if (found == 0 && is_alone()) end_run(REFUSED, "an epoll_wait waits for something outside of the program");
+        if (found == 0 && is_alone())
+            end_run(REFUSED, "an epoll_wait waits for something outside of the program");
     }
     acquire(&all_descriptors);
     return found;

@@ -1,7 +1,7 @@
 /*
- * Happens-before, by vector clocks, as C++ has it: what a release store writes, and the exchanges that go on
- * from it, is acquired by a load that reads it; a relaxed atomic does so with a fence before or after it. A
- * load reads the last store: values of weak memory aren't made.
+ * Happens-before, by vector clocks, as C++ has it: what a release store writes, and the exchanges
+ * that go on from it, is acquired by a load that reads it; a relaxed atomic does so with a fence
+ * before or after it. A load reads the last store: values of weak memory aren't made.
  */
 #include "stand.h"
 
@@ -22,8 +22,10 @@ static uint32_t sync_count;
 static Clock sequential; /* of fences that are sequentially consistent */
 
 static void *reserve(size_t bytes) {
-    void *at = mmap(NULL, bytes, PROT_READ | PROT_WRITE, MAP_PRIVATE | MAP_ANONYMOUS | MAP_NORESERVE, -1, 0);
-    if (at == MAP_FAILED) end_run(REFUSED, "no memory for %zu bytes of the runtime's tables", bytes);
+    void *at = mmap(NULL, bytes, PROT_READ | PROT_WRITE,
+                    MAP_PRIVATE | MAP_ANONYMOUS | MAP_NORESERVE, -1, 0);
+    if (at == MAP_FAILED)
+        end_run(REFUSED, "no memory for %zu bytes of the runtime's tables", bytes);
     return at;
 }
 
@@ -71,7 +73,8 @@ void load_clock(const volatile void *at, int order) {
 
 /* A store that is no exchange ends what another thread has released there. */
 void store_clock(const volatile void *at, int order, bool is_exchange) {
-    bool is_releasing = order == __ATOMIC_RELEASE || order == __ATOMIC_ACQ_REL || order == __ATOMIC_SEQ_CST;
+    bool is_releasing =
+        order == __ATOMIC_RELEASE || order == __ATOMIC_ACQ_REL || order == __ATOMIC_SEQ_CST;
     Sync *sync = sync_at(at, true);
     if (!is_exchange) memset(&sync->clock, 0, sizeof sync->clock);
     join_clock(&sync->clock, is_releasing ? &mine()->clock : &mine()->released);

@@ -1,6 +1,6 @@
 /*
- * Where a call came from: while runs are searched, by what instrumented functions put down as they begin; of a
- * run that is told, by unwinding, which also sees functions of libraries.
+ * Where a call came from: while runs are searched, by what instrumented functions put down as they
+ * begin; of a run that is told, by unwinding, which also sees functions of libraries.
  */
 #include "stand.h"
 

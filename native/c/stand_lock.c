@@ -1,6 +1,6 @@
 /*
- * Mutexes, spin locks, read-write locks and stdio's locks, each a mutex or a read-write lock of the book. The
- * book has 64 of each: one that nobody holds or waits for gives its place back.
+ * Mutexes, spin locks, read-write locks and stdio's locks, each a mutex or a read-write lock of the
+ * book. The book has 64 of each: one that nobody holds or waits for gives its place back.
  */
 #include "stand.h"
 
@@ -15,7 +15,11 @@ typedef struct Lock {
 static Lock mutexes[MOST_SEATS], rwlocks[MOST_SEATS];
 
 /* Of pthread_mutex_t. */
-enum { NORMAL = PTHREAD_MUTEX_NORMAL, RECURSIVE = PTHREAD_MUTEX_RECURSIVE, CHECKING = PTHREAD_MUTEX_ERRORCHECK };
+enum {
+    NORMAL = PTHREAD_MUTEX_NORMAL,
+    RECURSIVE = PTHREAD_MUTEX_RECURSIVE,
+    CHECKING = PTHREAD_MUTEX_ERRORCHECK
+};
 
 static uint32_t place_of(Lock *locks, const volatile void *at) {
     uint32_t spare = NOBODY;
@@ -24,7 +28,8 @@ static uint32_t place_of(Lock *locks, const volatile void *at) {
         bool is_free = locks[i].holds == 0 && locks[i].waiters == 0;
         if (is_free && (spare == NOBODY || (locks[spare].at && !locks[i].at))) spare = i;
     }
-    if (spare == NOBODY) end_run(REFUSED, "more than %d locks are held or waited for at once", MOST_SEATS);
+    if (spare == NOBODY)
+        end_run(REFUSED, "more than %d locks are held or waited for at once", MOST_SEATS);
     locks[spare] = (Lock){ .at = at, .owner = NOBODY };
     return spare;
 }
@@ -49,7 +54,8 @@ int lock_at(const volatile void *at, unsigned kind, bool is_try, const char *wha
     give_way(); /* before the place is chosen: another lock may have it afterwards */
     uint32_t place = place_of(mutexes, at);
     Lock *lock = &mutexes[place];
-    if (is_mine(lock) && (kind == RECURSIVE || kind == CHECKING)) return lock_again(lock, kind, is_try, what);
+    if (is_mine(lock) && (kind == RECURSIVE || kind == CHECKING))
+        return lock_again(lock, kind, is_try, what);
     lock->waiters++;
     int64_t is_got = ask(is_try ? PCT_ASK_TRY_LOCK : PCT_ASK_LOCK, place, what, at);
     lock->waiters--;
@@ -64,9 +70,12 @@ int lock_at(const volatile void *at, unsigned kind, bool is_try, const char *wha
 }
 
 /* Looks, and waits for an unlock or the time. */
-int lock_until(const volatile void *at, unsigned kind, const struct timespec *until, clockid_t clock, const char *what) {
+int lock_until(const volatile void *at, unsigned kind, const struct timespec *until,
+               clockid_t clock, const char *what) {
     Lock *lock = &mutexes[place_of(mutexes, at)];
-    if (is_mine(lock)) return kind == RECURSIVE || kind == CHECKING ? lock_again(lock, kind, false, what) : EDEADLK;
+    if (is_mine(lock))
+        return kind == RECURSIVE || kind == CHECKING ? lock_again(lock, kind, false, what)
+                                                     : EDEADLK;
     for (;;) {
         give_way();
         uint32_t place = place_of(mutexes, at);
@@ -129,22 +138,27 @@ void forget_lock(const volatile void *at) {
 
 /* --- Mutexes --- */
 
-static unsigned kind_of(const pthread_mutex_t *mutex) { return (unsigned)mutex->__data.__kind & 3U; }
+static unsigned kind_of(const pthread_mutex_t *mutex) {
+    return (unsigned)mutex->__data.__kind & 3U;
+}
 
 EXPORT int pthread_mutex_lock(pthread_mutex_t *mutex) {
     ENTER();
-    return is_tested() ? lock_at(mutex, kind_of(mutex), false, "lock") : REAL(pthread_mutex_lock)(mutex);
+    return is_tested() ? lock_at(mutex, kind_of(mutex), false, "lock")
+                       : REAL(pthread_mutex_lock)(mutex);
 }
 EXPORT int pthread_mutex_trylock(pthread_mutex_t *mutex) {
     ENTER();
-    return is_tested() ? lock_at(mutex, kind_of(mutex), true, "trylock") : REAL(pthread_mutex_trylock)(mutex);
+    return is_tested() ? lock_at(mutex, kind_of(mutex), true, "trylock")
+                       : REAL(pthread_mutex_trylock)(mutex);
 }
 EXPORT int pthread_mutex_timedlock(pthread_mutex_t *mutex, const struct timespec *until) {
     ENTER();
     if (!is_tested()) return REAL(pthread_mutex_timedlock)(mutex, until);
     return lock_until(mutex, kind_of(mutex), until, CLOCK_REALTIME, "timedlock");
 }
-EXPORT int pthread_mutex_clocklock(pthread_mutex_t *mutex, clockid_t clock, const struct timespec *until) {
+EXPORT int pthread_mutex_clocklock(pthread_mutex_t *mutex, clockid_t clock,
+                                   const struct timespec *until) {
     ENTER();
     if (!is_tested()) return REAL(pthread_mutex_clocklock)(mutex, clock, until);
     return lock_until(mutex, kind_of(mutex), until, clock, "clocklock");
@@ -171,7 +185,8 @@ EXPORT int pthread_spin_lock(pthread_spinlock_t *lock) {
 }
 EXPORT int pthread_spin_trylock(pthread_spinlock_t *lock) {
     ENTER();
-    return is_tested() ? lock_at(lock, NORMAL, true, "spin trylock") : REAL(pthread_spin_trylock)(lock);
+    return is_tested() ? lock_at(lock, NORMAL, true, "spin trylock")
+                       : REAL(pthread_spin_trylock)(lock);
 }
 EXPORT int pthread_spin_unlock(pthread_spinlock_t *lock) {
     ENTER();
@@ -207,7 +222,8 @@ static int rwlock_at(const volatile void *at, uint32_t kind, const char *what) {
     return got_rwlock(lock, at, kind == PCT_ASK_WR_LOCK || kind == PCT_ASK_TRY_WR_LOCK);
 }
 
-static int rwlock_until(const volatile void *at, uint32_t kind, const struct timespec *until, clockid_t clock, const char *what) {
+static int rwlock_until(const volatile void *at, uint32_t kind, const struct timespec *until,
+                        clockid_t clock, const char *what) {
     for (;;) {
         give_way();
         uint32_t place = place_of(rwlocks, at);
@@ -236,21 +252,22 @@ static int rwlock_unlock(const volatile void *at) {
     return 0;
 }
 
-#define RWLOCK(name, kind)                                                              \
-    EXPORT int pthread_rwlock_##name(pthread_rwlock_t *lock) {                          \
-        ENTER();                                                                        \
+#define RWLOCK(name, kind)                                                                     \
+    EXPORT int pthread_rwlock_##name(pthread_rwlock_t *lock) {                                 \
+        ENTER();                                                                               \
         return is_tested() ? rwlock_at(lock, kind, #name) : REAL(pthread_rwlock_##name)(lock); \
     }
-#define TIMED_RWLOCK(name, kind)                                                        \
+#define TIMED_RWLOCK(name, kind)                                                                  \
     EXPORT int pthread_rwlock_timed##name(pthread_rwlock_t *lock, const struct timespec *until) { \
-        ENTER();                                                                        \
-        return is_tested() ? rwlock_until(lock, kind, until, CLOCK_REALTIME, "timed" #name) \
-                           : REAL(pthread_rwlock_timed##name)(lock, until);             \
-    }                                                                                   \
-    EXPORT int pthread_rwlock_clock##name(pthread_rwlock_t *lock, clockid_t clock, const struct timespec *until) { \
-        ENTER();                                                                        \
-        return is_tested() ? rwlock_until(lock, kind, until, clock, "clock" #name)      \
-                           : REAL(pthread_rwlock_clock##name)(lock, clock, until);      \
+        ENTER();                                                                                  \
+        return is_tested() ? rwlock_until(lock, kind, until, CLOCK_REALTIME, "timed" #name)       \
+                           : REAL(pthread_rwlock_timed##name)(lock, until);                       \
+    }                                                                                             \
+    EXPORT int pthread_rwlock_clock##name(pthread_rwlock_t *lock, clockid_t clock,                \
+                                          const struct timespec *until) {                         \
+        ENTER();                                                                                  \
+        return is_tested() ? rwlock_until(lock, kind, until, clock, "clock" #name)                \
+                           : REAL(pthread_rwlock_clock##name)(lock, clock, until);                \
     }
 RWLOCK(rdlock, PCT_ASK_RD_LOCK)
 RWLOCK(wrlock, PCT_ASK_WR_LOCK)
@@ -263,7 +280,8 @@ EXPORT int pthread_rwlock_unlock(pthread_rwlock_t *lock) {
     return is_tested() ? rwlock_unlock(lock) : REAL(pthread_rwlock_unlock)(lock);
 }
 
-/* --- stdio's own locks, held by the program over steps: libc's would make a thread wait for real --- */
+/* --- stdio's own locks, held by the program over steps: libc's would make a thread wait for real
+ * --- */
 
 EXPORT void flockfile(FILE *file) {
     ENTER();

@@ -1,6 +1,7 @@
 /*
- * Freed memory. A block is kept from use, so that an access to it is seen and told with the place where it was
- * freed: up to QUARANTINE bytes, the oldest first. With --reuse blocks are given again at once.
+ * Freed memory. A block is kept from use, so that an access to it is seen and told with the place
+ * where it was freed: up to QUARANTINE bytes, the oldest first. With --reuse blocks are given again
+ * at once.
  */
 #include "stand.h"
 
@@ -24,7 +25,9 @@ typedef struct Kept {
 static Kept *kept;
 static size_t kept_bytes, kept_first, kept_next;
 
-static size_t marked_of(size_t size) { return size < MOST_MARKED ? size & ~(size_t)7 : MOST_MARKED; }
+static size_t marked_of(size_t size) {
+    return size < MOST_MARKED ? size & ~(size_t)7 : MOST_MARKED;
+}
 
 static void let_oldest_go(void) {
     Kept *oldest = &kept[kept_first++ % MOST_KEPT];
@@ -36,7 +39,9 @@ static void let_oldest_go(void) {
 static bool keep(void *block, size_t size) {
     if (!kept) kept = __libc_malloc(MOST_KEPT * sizeof *kept);
     if (!kept || size > QUARANTINE) return false;
-    while (kept_first < kept_next && (kept_bytes + size > QUARANTINE || kept_next - kept_first == MOST_KEPT)) let_oldest_go();
+    while (kept_first < kept_next &&
+           (kept_bytes + size > QUARANTINE || kept_next - kept_first == MOST_KEPT))
+        let_oldest_go();
     kept[kept_next++ % MOST_KEPT] = (Kept){ block, size };
     kept_bytes += size;
     return true;
@@ -49,7 +54,8 @@ static void free_tested(void *block, uintptr_t pc) {
         __libc_free(block);
         return;
     }
-    if (seat_count() > 1 || is_freed((uintptr_t)block)) touch((uintptr_t)block, marked, ACCESS_WRITE, pc);
+    if (seat_count() > 1 || is_freed((uintptr_t)block))
+        touch((uintptr_t)block, marked, ACCESS_WRITE, pc);
     if (shared->plan.is_reusing || !keep(block, size)) {
         forget_memory((uintptr_t)block, marked);
         __libc_free(block);

@@ -1,4 +1,5 @@
-/* What stands at the address of a semaphore, a barrier, a once.. in this run: by a table of addresses. */
+/* What stands at the address of a semaphore, a barrier, a once.. in this run: by a table of
+ * addresses. */
 #include "stand.h"
 
 #define MOST_OBJECTS 16384 /* a power of two */

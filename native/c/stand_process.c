@@ -1,10 +1,12 @@
 /*
- * The runner. The program is started by pct-try, with two descriptors in PCT_STAND: by one come lines that say
- * which runs to make, by the other go lines that say what came of them. It stands before main: of each run a
- * process is forked, which goes on into the program. Without PCT_STAND the program just runs.
+ * The runner. The program is started by pct-try, with two descriptors in PCT_STAND: by one come
+ * lines that say which runs to make, by the other go lines that say what came of them. It stands
+ * before main: of each run a process is forked, which goes on into the program. Without PCT_STAND
+ * the program just runs.
  *
- * Lines that come: set NAME NUMBER; learned PC, ignore PC, list THREAD.., forget; run SEED DEPTH; search FROM
- * COUNT DEPTH DEPTH; tell; modules. Each of the last four is answered by lines, of which the last is `.`.
+ * Lines that come: set NAME NUMBER; learned PC, ignore PC, list THREAD.., forget; run SEED DEPTH;
+ * search FROM COUNT DEPTH DEPTH; tell; modules. Each of the last four is answered by lines, of
+ * which the last is `.`.
  */
 #include "stand_process.h"
 
@@ -64,7 +66,8 @@ bool make_run(void) {
     }
     if (process < 0) {
         shared->end = REFUSED;
-        snprintf(shared->told, sizeof shared->told, "the system makes no further process: %s", strerror(errno));
+        snprintf(shared->told, sizeof shared->told, "the system makes no further process: %s",
+                 strerror(errno));
         return false;
     }
     int status = 0;
@@ -83,16 +86,17 @@ static const struct {
     const char *name;
     size_t place;
 } SETTINGS[] = {
-    { "seats", offsetof(Plan, seats) },       { "steps", offsetof(Plan, steps) },
-    { "limit", offsetof(Plan, limit) },       { "plain", offsetof(Plan, plain) },
-    { "reuse", offsetof(Plan, is_reusing) },  { "early", offsetof(Plan, is_early) },
-    { "chaos", offsetof(Plan, is_chaotic) },  { "loud", offsetof(Plan, is_loud) },
-    { "frozen", offsetof(Plan, is_frozen) },  { "patience", offsetof(Plan, patience) },
+    { "seats", offsetof(Plan, seats) },      { "steps", offsetof(Plan, steps) },
+    { "limit", offsetof(Plan, limit) },      { "plain", offsetof(Plan, plain) },
+    { "reuse", offsetof(Plan, is_reusing) }, { "early", offsetof(Plan, is_early) },
+    { "chaos", offsetof(Plan, is_chaotic) }, { "loud", offsetof(Plan, is_loud) },
+    { "frozen", offsetof(Plan, is_frozen) }, { "patience", offsetof(Plan, patience) },
 };
 
 static void set(const char *name, uint32_t value) {
     for (size_t i = 0; i < sizeof SETTINGS / sizeof *SETTINGS; i++)
-        if (strcmp(SETTINGS[i].name, name) == 0) *(uint32_t *)((char *)&shared->plan + SETTINGS[i].place) = value;
+        if (strcmp(SETTINGS[i].name, name) == 0)
+            *(uint32_t *)((char *)&shared->plan + SETTINGS[i].place) = value;
 }
 
 static void put_learned(uintptr_t pc) {
@@ -103,13 +107,15 @@ static void put_learned(uintptr_t pc) {
 }
 
 static void read_list(char *words) {
-    for (char *word = strtok(words, " "); word && shared->plan.listed < PCT_MOST_STEPS; word = strtok(NULL, " "))
+    for (char *word = strtok(words, " "); word && shared->plan.listed < PCT_MOST_STEPS;
+         word = strtok(NULL, " "))
         shared->list[shared->plan.listed++] = (uint32_t)strtoul(word, NULL, 10);
 }
 
 static void answer_run(void) {
-    fprintf(answers, "run %" PRIu64 " %u %u %u %u %u %" PRIx64 "\n", shared->plan.seed, shared->plan.depth,
-            (unsigned)shared->end, shared->step_count, shared->seat_count, shared->status, shared->hash);
+    fprintf(answers, "run %" PRIu64 " %u %u %u %u %u %" PRIx64 "\n", shared->plan.seed,
+            shared->plan.depth, (unsigned)shared->end, shared->step_count, shared->seat_count,
+            shared->status, shared->hash);
 }
 
 /* Whether this is the process of a run now. */
@@ -195,12 +201,15 @@ static void become_runner(const char *descriptors, char **words) {
     leave_environment();
     commands = fdopen(in, "re");
     answers = fdopen(out, "we");
-    shared = mmap(NULL, sizeof *shared, PROT_READ | PROT_WRITE, MAP_SHARED | MAP_ANONYMOUS | MAP_NORESERVE, -1, 0);
+    shared = mmap(NULL, sizeof *shared, PROT_READ | PROT_WRITE,
+                  MAP_SHARED | MAP_ANONYMOUS | MAP_NORESERVE, -1, 0);
     if (!commands || !answers || shared == MAP_FAILED) {
         fputs("pct: the runner has no memory or no descriptors\n", stderr);
         _exit(1);
     }
-    shared->plan = (Plan){ .seats = 1, .steps = 1, .limit = 50000, .plain = PLAIN_RACES, .patience = 10, .is_frozen = 1 };
+    shared->plan = (Plan){
+        .seats = 1, .steps = 1, .limit = 50000, .plain = PLAIN_RACES, .patience = 10, .is_frozen = 1
+    };
     watch();
     serve();
     close(in);
@@ -210,8 +219,8 @@ static void become_runner(const char *descriptors, char **words) {
 typedef int Main(int, char **, char **);
 typedef int StartMain(Main *, int, char **, void (*)(void), void (*)(void), void (*)(void), void *);
 
-EXPORT int __libc_start_main(Main *main_, int count, char **words, void (*init)(void), void (*fini)(void),
-                             void (*linker_fini)(void), void *stack_end) {
+EXPORT int __libc_start_main(Main *main_, int count, char **words, void (*init)(void),
+                             void (*fini)(void), void (*linker_fini)(void), void *stack_end) {
     StartMain *start = (StartMain *)dlsym(RTLD_NEXT, "__libc_start_main");
     const char *descriptors = getenv("PCT_STAND");
     if (descriptors) become_runner(descriptors, words);

@@ -9,8 +9,8 @@
 /* In the process of a run, before the program's first line. */
 void begin_run(void);
 
-/* Makes the run of the plan in a process of its own. Answers true there, and false in the runner, once it is
-   over. */
+/* Makes the run of the plan in a process of its own. Answers true there, and false in the runner,
+   once it is over. */
 bool make_run(void);
 
 /* Whether it failed, as `shared` has it now. */

@@ -1,24 +1,25 @@
 /*
  * Who goes when nobody can; threads that look again and again; time.
  *
- * A thread that looks and sees nothing new rests: it waits at its semaphore until another thread changes
- * something. A timed wait is such a wait, too. Where an ask would leave nobody who can go, who brings it
- * wakes one of them first, by a step: so the book is never stuck but in a deadlock, and no thread is needed
- * beside the program's. All that stands in `ask`, the one place to change for a call of the library by which
- * a thread goes below all others.
+ * A thread that looks and sees nothing new rests: it waits at its semaphore until another thread
+ * changes something. A timed wait is such a wait, too. Where an ask would leave nobody who can go,
+ * who brings it wakes one of them first, by a step: so the book is never stuck but in a deadlock,
+ * and no thread is needed beside the program's. All that stands in `ask`, the one place to change
+ * for a call of the library by which a thread goes below all others.
  */
 #include "stand.h"
 
-#define MOST_IN_ROW 500        /* steps of one thread, while others could go */
-#define MOST_PLAIN 20000       /* accesses without a step */
-#define MOST_FRUITLESS 1000    /* wakings after which nothing changed */
-#define MOST_ALONE 1000000     /* looks of a thread while no other can go */
-#define MOST_EARLY 2           /* waits of a thread that end early */
+#define MOST_IN_ROW 500     /* steps of one thread, while others could go */
+#define MOST_PLAIN 20000    /* accesses without a step */
+#define MOST_FRUITLESS 1000 /* wakings after which nothing changed */
+#define MOST_ALONE 1000000  /* looks of a thread while no other can go */
+#define MOST_EARLY 2        /* waits of a thread that end early */
 
 static uint64_t stamps, last_event, now_, chance;
 static uint32_t fruitless, alone_looks, last_seat, in_row;
 static bool is_solo; /* no other thread can go, and this one looks on without steps */
-static uint64_t news = UINT64_MAX; /* a bit for each thread since whose last look something changed */
+static uint64_t news =
+    UINT64_MAX; /* a bit for each thread since whose last look something changed */
 
 uint32_t draw_below(uint32_t most) {
     if (!chance) chance = shared->plan.seed * 0x9e3779b97f4a7c15U + 88172645463325252U;
@@ -56,9 +57,12 @@ static void end_time(Seat *s) {
     if (s->wait == WAITS_FOR_TIME && s->deadline > virtual_now()) now_ = s->deadline;
 }
 
-static bool waits(const Seat *s, Wait wait) { return s->is_live && s->wait == wait && !s->is_woken; }
+static bool waits(const Seat *s, Wait wait) {
+    return s->is_live && s->wait == wait && !s->is_woken;
+}
 
-/* Of those that look, who looked longest ago; where `is_fresh`, that hasn't since something happened. */
+/* Of those that look, who looked longest ago; where `is_fresh`, that hasn't since something
+ * happened. */
 static uint32_t looker(bool is_fresh) {
     uint32_t best = NOBODY;
     for (uint32_t t = 0; t < seat_count(); t++)
@@ -71,7 +75,9 @@ static uint32_t looker(bool is_fresh) {
 static uint32_t earliest(void) {
     uint32_t best = NOBODY;
     for (uint32_t t = 0; t < seat_count(); t++)
-        if (waits(&seats[t], WAITS_FOR_TIME) && (best == NOBODY || seats[t].deadline < seats[best].deadline)) best = t;
+        if (waits(&seats[t], WAITS_FOR_TIME) &&
+            (best == NOBODY || seats[t].deadline < seats[best].deadline))
+            best = t;
     return best;
 }
 
@@ -82,7 +88,8 @@ static uint32_t choose_waker(void) {
     return t != NOBODY ? t : looker(false);
 }
 
-/* Wakes, of those who wait for a change or a time, who is next; NOBODY where there is none: a deadlock. */
+/* Wakes, of those who wait for a change or a time, who is next; NOBODY where there is none: a
+ * deadlock. */
 static uint32_t wake_by_itself(void) {
     uint32_t t = choose_waker();
     if (t == NOBODY) return NOBODY;
@@ -110,7 +117,8 @@ static bool wake_before(uint32_t kind, uint32_t object) {
         uint32_t t = wake_by_itself();
         if (t == NOBODY) return false;
         if (t == (uint32_t)self.seat) return true;
-        bring(PCT_ASK_UP, t, seats[t].has_timed_out ? "time passes for" : "nobody else can go but", NULL);
+        bring(PCT_ASK_UP, t, seats[t].has_timed_out ? "time passes for" : "nobody else can go but",
+              NULL);
     }
     return false;
 }
@@ -170,7 +178,8 @@ bool finish_wait(const char *what, const volatile void *at) {
     return s->has_timed_out;
 }
 
-/* Its semaphore is raised where it waits there already, and not where it sees before that it is woken. */
+/* Its semaphore is raised where it waits there already, and not where it sees before that it is
+ * woken. */
 void wake(uint32_t seat, const char *what) {
     Seat *s = &seats[seat];
     bool is_down = s->step.kind == PCT_ASK_DOWN && s->state != SEAT_AWAY;
@@ -180,7 +189,8 @@ void wake(uint32_t seat, const char *what) {
 }
 
 static bool waits_at(const Seat *s, const volatile void *at, uint32_t mask) {
-    return s->wait != WAITS_FOR_NOTHING && s->waits_at == at && !s->is_woken && (mask == 0 || (s->mask & mask));
+    return s->wait != WAITS_FOR_NOTHING && s->waits_at == at && !s->is_woken &&
+           (mask == 0 || (s->mask & mask));
 }
 
 uint32_t waiter_at(const volatile void *at, uint32_t mask) {
@@ -244,7 +254,8 @@ static Seen *seen_here(uint64_t value) {
 void looked(uint64_t value, uint32_t most) {
     if (is_solo) {
         shared->moves++;
-        if (++alone_looks > MOST_ALONE) end_run(LIVELOCK, "a thread looks again and again, and no other can go");
+        if (++alone_looks > MOST_ALONE)
+            end_run(LIVELOCK, "a thread looks again and again, and no other can go");
         return;
     }
     if (news & BIT(self.seat)) {
@@ -260,7 +271,8 @@ void give_way(void) {
     rest("gives way");
 }
 
-/* Only where plain accesses are looked at for races alone is there no more to do of most of them. */
+/* Only where plain accesses are looked at for races alone is there no more to do of most of them.
+ */
 void begin_budget(void) { self.budget = shared->plan.plain == PLAIN_RACES ? MOST_PLAIN : 0; }
 
 void count_access(void) {

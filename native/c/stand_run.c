@@ -1,6 +1,7 @@
 /*
- * The process of a run: what is set before the program's first line, and how it dies. The program's own
- * main thread runs in it, so constructors, thread-locals and handlers of exit are part of the run.
+ * The process of a run: what is set before the program's first line, and how it dies. The program's
+ * own main thread runs in it, so constructors, thread-locals and handlers of exit are part of the
+ * run.
  */
 #include "stand_process.h"
 
@@ -57,8 +58,10 @@ static void on_death(int number, siginfo_t *info, void *context) {
 
 static void watch_deaths(void) {
     static const int numbers[] = { SIGSEGV, SIGBUS, SIGFPE, SIGILL, SIGTRAP };
-    struct sigaction action = { .sa_sigaction = on_death, .sa_flags = SA_SIGINFO | (int)SA_RESETHAND };
-    for (size_t i = 0; i < sizeof numbers / sizeof *numbers; i++) sigaction(numbers[i], &action, NULL);
+    struct sigaction action = { .sa_sigaction = on_death,
+                                .sa_flags = SA_SIGINFO | (int)SA_RESETHAND };
+    for (size_t i = 0; i < sizeof numbers / sizeof *numbers; i++)
+        sigaction(numbers[i], &action, NULL);
 }
 
 EXPORT void __assert_fail(const char *text, const char *file, unsigned line, const char *function) {

@@ -1,9 +1,11 @@
 /*
- * Who touched which plain memory last. For each eight bytes there are four cells, each an access of some of
- * them: by whom, where in the code, and when by that thread's clock. Two accesses race where at least one
- * writes, at least one isn't atomic, and the earlier one's time isn't in the later one's clock.
+ * Who touched which plain memory last. For each eight bytes there are four cells, each an access of
+ * some of them: by whom, where in the code, and when by that thread's clock. Two accesses race
+ * where at least one writes, at least one isn't atomic, and the earlier one's time isn't in the
+ * later one's clock.
  *
- * Cells lie in regions of a megabyte of the program's memory, which are made when they are first touched.
+ * Cells lie in regions of a megabyte of the program's memory, which are made when they are first
+ * touched.
  */
 #include "stand_shadow.h"
 
@@ -13,7 +15,8 @@
 Region regions[REGIONS];
 
 static void *reserve(size_t bytes) {
-    void *at = mmap(NULL, bytes, PROT_READ | PROT_WRITE, MAP_PRIVATE | MAP_ANONYMOUS | MAP_NORESERVE, -1, 0);
+    void *at = mmap(NULL, bytes, PROT_READ | PROT_WRITE,
+                    MAP_PRIVATE | MAP_ANONYMOUS | MAP_NORESERVE, -1, 0);
     return at == MAP_FAILED ? NULL : at;
 }
 
@@ -46,7 +49,8 @@ static uintptr_t *learned_slot(uintptr_t pc) {
 bool is_learned(uintptr_t pc) { return *learned_slot(pc) == pc; }
 
 static void learn(uintptr_t pc) {
-    if (shared->plan.is_frozen || is_learned(pc) || shared->learned_count >= MOST_LEARNED / 2) return;
+    if (shared->plan.is_frozen || is_learned(pc) || shared->learned_count >= MOST_LEARNED / 2)
+        return;
     *learned_slot(pc) = pc;
     shared->learned_count++;
 }
@@ -61,8 +65,11 @@ static bool is_ignored(uintptr_t pc) {
 
 static void tell_access(uint32_t place, uint32_t thread, const Cell *cell, uintptr_t at) {
     Access *access = &shared->accesses[place];
-    *access = (Access){ .thread = thread, .is_write = cell->kind & ACCESS_WRITE, .at = at,
-                        .is_atomic = (cell->kind & ACCESS_ATOMIC) != 0, .size = (uint32_t)__builtin_popcount(cell->mask) };
+    *access = (Access){ .thread = thread,
+                        .is_write = cell->kind & ACCESS_WRITE,
+                        .at = at,
+                        .is_atomic = (cell->kind & ACCESS_ATOMIC) != 0,
+                        .size = (uint32_t)__builtin_popcount(cell->mask) };
     if (place == 1) {
         self.pc = cell->pc;
         keep_frames(access->frames);
@@ -90,13 +97,14 @@ static void end_by_freed(const Cell *freed, const Cell *use, uintptr_t at) {
 /* Of memory of the thread's own stack, which a thread had before that has ended. */
 static bool is_of_ended(const Cell *cell, uintptr_t at) {
     const Seat *s = mine(), *other = &seats[cell->thread];
-    return at >= s->stack_low && at < s->stack_high && (!other->is_live || cell->epoch < other->born);
+    return at >= s->stack_low && at < s->stack_high &&
+           (!other->is_live || cell->epoch < other->born);
 }
 
 /* Whether the cell's access may race with the new one, were they not ordered. */
 static bool do_conflict(const Cell *cell, const Cell *new) {
-    return cell->thread != new->thread && (cell->mask & new->mask) && ((cell->kind | new->kind) & ACCESS_WRITE) &&
-           !(cell->kind & new->kind & ACCESS_ATOMIC);
+    return cell->thread != new->thread && (cell->mask & new->mask) &&
+           ((cell->kind | new->kind) & ACCESS_WRITE) && !(cell->kind & new->kind &ACCESS_ATOMIC);
 }
 
 static void meet(Cell *cell, const Cell *new, uintptr_t at, bool is_ordered) {
@@ -109,12 +117,14 @@ static void meet(Cell *cell, const Cell *new, uintptr_t at, bool is_ordered) {
         learn(new->pc);
         learn(cell->pc);
     }
-    if (!is_ordered && mode == PLAIN_RACES && !is_ignored(new->pc) && !is_ignored(cell->pc)) end_by_race(cell, new, at);
+    if (!is_ordered && mode == PLAIN_RACES && !is_ignored(new->pc) && !is_ignored(cell->pc))
+        end_by_race(cell, new, at);
 }
 
 static bool covers(const Cell *cell, const Cell *new) {
-    return cell->thread == new->thread && cell->mask == new->mask && (cell->kind & ACCESS_WRITE) <= (new->kind & ACCESS_WRITE) &&
-           (cell->kind & ACCESS_ATOMIC) >= (new->kind & ACCESS_ATOMIC);
+    return cell->thread == new->thread && cell->mask == new->mask &&
+           (cell->kind & ACCESS_WRITE) <= (new->kind &ACCESS_WRITE) &&
+           (cell->kind & ACCESS_ATOMIC) >= (new->kind &ACCESS_ATOMIC);
 }
 
 static void put_cell(Granule *granule, const Cell *new, uintptr_t at) {
@@ -128,12 +138,17 @@ static void put_cell(Granule *granule, const Cell *new, uintptr_t at) {
         else if (covers(cell, new)) same = cell;
         else if (is_ordered) ordered = cell;
     }
-    Cell *to = same ? same : empty ? empty : ordered ? ordered : &granule->cells[shared->plain_accesses % CELLS];
+    Cell *to = same      ? same
+               : empty   ? empty
+               : ordered ? ordered
+                         : &granule->cells[shared->plain_accesses % CELLS];
     *to = *new;
 }
 
 void touch(uintptr_t at, size_t size, unsigned kind, uintptr_t pc) {
-    Cell new = { .pc = pc, .epoch = self.epoch, .thread = (uint8_t)self.seat, .kind = (uint8_t)kind };
+    Cell new = {
+        .pc = pc, .epoch = self.epoch, .thread = (uint8_t)self.seat, .kind = (uint8_t)kind
+    };
     for (size_t done = 0; done < size;) {
         uint32_t part = 8 - (uint32_t)((at + done) & 7);
         if (part > size - done) part = (uint32_t)(size - done);
@@ -147,9 +162,13 @@ bool is_freed(uintptr_t at) { return granule_at(at)->cells[0].kind & ACCESS_FREE
 
 void mark_freed(uintptr_t at, size_t size, uintptr_t pc) {
     for (uintptr_t i = at; i < at + size; i += 8)
-        *granule_at(i) = (Granule){ .cells[0] = { .pc = pc, .thread = (uint8_t)self.seat, .mask = 255, .kind = ACCESS_FREED } };
+        *granule_at(i) = (Granule){ .cells[0] = { .pc = pc,
+                                                  .thread = (uint8_t)self.seat,
+                                                  .mask = 255,
+                                                  .kind = ACCESS_FREED } };
 }
 
 void forget_memory(uintptr_t at, size_t size) {
-    for (uintptr_t i = at & ~(uintptr_t)7; i < at + size; i += 8) memset(granule_at(i), 0, sizeof(Granule));
+    for (uintptr_t i = at & ~(uintptr_t)7; i < at + size; i += 8)
+        memset(granule_at(i), 0, sizeof(Granule));
 }

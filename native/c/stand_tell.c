@@ -1,4 +1,5 @@
-/* Writes a run for pct-try, a line for each step; addresses as they stand, which pct-try makes lines of. */
+/* Writes a run for pct-try, a line for each step; addresses as they stand, which pct-try makes
+ * lines of. */
 #include "stand_process.h"
 
 #include <inttypes.h>
@@ -15,14 +16,15 @@ static uintptr_t told_address(uintptr_t at) {
 }
 
 static void write_step(FILE *to, const char *word, const Step *step) {
-    fprintf(to, "%s %u %u %u %d %" PRIxPTR " %" PRIx64, word, step->thread, step->kind, step->object, step->answer,
-            told_address(step->at), step->value);
+    fprintf(to, "%s %u %u %u %d %" PRIxPTR " %" PRIx64, word, step->thread, step->kind,
+            step->object, step->answer, told_address(step->at), step->value);
     write_frames(to, step->frames);
     fprintf(to, " %s\n", step->what);
 }
 
 static void write_access(FILE *to, const Access *access) {
-    fprintf(to, "access %u %u %u %u %" PRIxPTR, access->thread, access->size, access->is_write, access->is_atomic, access->at);
+    fprintf(to, "access %u %u %u %u %" PRIxPTR, access->thread, access->size, access->is_write,
+            access->is_atomic, access->at);
     write_frames(to, access->frames);
     for (size_t i = 0; i < 4; i++) fprintf(to, "%c%" PRIxPTR, i ? ',' : ' ', access->held[i]);
     fputc('\n', to);
@@ -47,7 +49,8 @@ static int write_module(struct dl_phdr_info *info, size_t size, void *data) {
     uintptr_t end = 0;
     for (int i = 0; i < info->dlpi_phnum; i++) {
         const ElfW(Phdr) *part = &info->dlpi_phdr[i];
-        if (part->p_type == PT_LOAD && part->p_vaddr + part->p_memsz > end) end = part->p_vaddr + part->p_memsz;
+        if (part->p_type == PT_LOAD && part->p_vaddr + part->p_memsz > end)
+            end = part->p_vaddr + part->p_memsz;
     }
     fprintf((FILE *)data, "module %" PRIxPTR " %" PRIxPTR " %s\n", (uintptr_t)info->dlpi_addr,
             (uintptr_t)info->dlpi_addr + end, info->dlpi_name);

@@ -1,6 +1,7 @@
 /*
- * Threads: creating, joining, ending, cancelling, and signals that the program sends to one. A thread has a
- * seat from its creation to its end, and a join waits for the end of the thread, not for the book's.
+ * Threads: creating, joining, ending, cancelling, and signals that the program sends to one. A
+ * thread has a seat from its creation to its end, and a join waits for the end of the thread, not
+ * for the book's.
  */
 #include "stand.h"
 
@@ -25,7 +26,9 @@ static pthread_key_t end_key;
 
 static void leave(void *rounds);
 
-static void begin_end_key(void) { pthread_setspecific(end_key, (void *)(uintptr_t)(PTHREAD_DESTRUCTOR_ITERATIONS - 1)); }
+static void begin_end_key(void) {
+    pthread_setspecific(end_key, (void *)(uintptr_t)(PTHREAD_DESTRUCTOR_ITERATIONS - 1));
+}
 
 /* A process that the program forks is on its own. */
 static void leave_fork(void) { self.seat = -1; }
@@ -52,7 +55,8 @@ static Ended *ended_of(pthread_t thread) {
     return NULL;
 }
 
-/* --- The end: in the last round of the destructors of keys, so that those are the program's steps, too --- */
+/* --- The end: in the last round of the destructors of keys, so that those are the program's steps,
+ * too --- */
 
 static void keep_ended(const Seat *s) {
     static uint32_t room;
@@ -103,16 +107,18 @@ static void *begin(void *argument) {
     return s->function(s->argument);
 }
 
-/* Of std::thread, whose function is libstdc++'s, what stands in its state first: a function, where it was made
-   of one. */
+/* Of std::thread, whose function is libstdc++'s, what stands in its state first: a function, where
+   it was made of one. */
 static uintptr_t function_of(void *(*function)(void *), void *argument) {
     Dl_info info;
-    if (dladdr((void *)(uintptr_t)function, &info) && info.dli_fname && strstr(info.dli_fname, "libstdc++"))
+    if (dladdr((void *)(uintptr_t)function, &info) && info.dli_fname &&
+        strstr(info.dli_fname, "libstdc++"))
         return ((const uintptr_t *)argument)[1];
     return (uintptr_t)function;
 }
 
-static void prepare(Seat *s, const pthread_attr_t *attr, void *(*function)(void *), void *argument) {
+static void prepare(Seat *s, const pthread_attr_t *attr, void *(*function)(void *),
+                    void *argument) {
     uint32_t seat = (uint32_t)(s - seats);
     int state = PTHREAD_CREATE_JOINABLE;
     if (attr) pthread_attr_getdetachstate(attr, &state);
@@ -130,7 +136,8 @@ static void prepare(Seat *s, const pthread_attr_t *attr, void *(*function)(void 
 }
 
 /* The real thread is made before the step, so that its number stands; it waits for the baton. */
-EXPORT int pthread_create(pthread_t *thread, const pthread_attr_t *attr, void *(*function)(void *), void *argument) {
+EXPORT int pthread_create(pthread_t *thread, const pthread_attr_t *attr, void *(*function)(void *),
+                          void *argument) {
     ENTER();
     if (!is_tested()) return REAL(pthread_create)(thread, attr, function, argument);
     uint32_t seat = take_seat();
@@ -180,11 +187,14 @@ EXPORT int pthread_join(pthread_t thread, void **value) {
 }
 EXPORT int pthread_timedjoin_np(pthread_t thread, void **value, const struct timespec *until) {
     ENTER();
-    return is_tested() ? join_at(thread, value, until, CLOCK_REALTIME) : REAL(pthread_timedjoin_np)(thread, value, until);
+    return is_tested() ? join_at(thread, value, until, CLOCK_REALTIME)
+                       : REAL(pthread_timedjoin_np)(thread, value, until);
 }
-EXPORT int pthread_clockjoin_np(pthread_t thread, void **value, clockid_t clock, const struct timespec *until) {
+EXPORT int pthread_clockjoin_np(pthread_t thread, void **value, clockid_t clock,
+                                const struct timespec *until) {
     ENTER();
-    return is_tested() ? join_at(thread, value, until, clock) : REAL(pthread_clockjoin_np)(thread, value, clock, until);
+    return is_tested() ? join_at(thread, value, until, clock)
+                       : REAL(pthread_clockjoin_np)(thread, value, clock, until);
 }
 EXPORT int pthread_tryjoin_np(pthread_t thread, void **value) {
     ENTER();
@@ -237,12 +247,14 @@ EXPORT int pthread_setcancelstate(int state, int *old) {
     return 0;
 }
 
-/* --- Signals of the program to one of its threads: taken at that thread's next step, not in between --- */
+/* --- Signals of the program to one of its threads: taken at that thread's next step, not in
+ * between --- */
 
 EXPORT int pthread_kill(pthread_t thread, int number) {
     ENTER();
     uint32_t seat = is_tested() ? seat_of(thread) : NOBODY;
-    if (seat == NOBODY || seat == (uint32_t)self.seat || number < 1) return REAL(pthread_kill)(thread, number);
+    if (seat == NOBODY || seat == (uint32_t)self.seat || number < 1)
+        return REAL(pthread_kill)(thread, number);
     step("kill", NULL);
     if (!seats[seat].is_live) return ESRCH;
     seats[seat].signals |= BIT(number);

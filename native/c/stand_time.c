@@ -1,5 +1,5 @@
-/* Sleeping, yielding, clocks, and the futexes on which C++'s waits stand. A clock moves a microsecond when it
-   is read, and to the end of each wait; a sleep is a wait for a time. */
+/* Sleeping, yielding, clocks, and the futexes on which C++'s waits stand. A clock moves a
+   microsecond when it is read, and to the end of each wait; a sleep is a wait for a time. */
 #include "stand.h"
 
 #include <errno.h>
@@ -52,13 +52,15 @@ EXPORT int usleep(useconds_t time) {
 }
 EXPORT unsigned sleep(unsigned seconds) {
     ENTER();
-    return is_tested() ? (unsigned)sleep_for((uint64_t)seconds * NANOSECONDS, "sleeps") : REAL(sleep)(seconds);
+    return is_tested() ? (unsigned)sleep_for((uint64_t)seconds * NANOSECONDS, "sleeps")
+                       : REAL(sleep)(seconds);
 }
 EXPORT int nanosleep(const struct timespec *time, struct timespec *left) {
     ENTER();
     return is_tested() ? sleep_for(nanoseconds(time), "sleeps") : REAL(nanosleep)(time, left);
 }
-EXPORT int clock_nanosleep(clockid_t clock, int flags, const struct timespec *time, struct timespec *left) {
+EXPORT int clock_nanosleep(clockid_t clock, int flags, const struct timespec *time,
+                           struct timespec *left) {
     ENTER();
     if (!is_tested()) return REAL(clock_nanosleep)(clock, flags, time, left);
     uint64_t until = nanoseconds(time), now = virtual_now();
@@ -84,13 +86,15 @@ static uint64_t read_clock(void) {
 EXPORT int clock_gettime(clockid_t clock, struct timespec *time) {
     if (!is_tested()) return REAL(clock_gettime)(clock, time);
     uint64_t now = read_clock();
-    *time = (struct timespec){ .tv_sec = (time_t)(now / NANOSECONDS), .tv_nsec = (long)(now % NANOSECONDS) };
+    *time = (struct timespec){ .tv_sec = (time_t)(now / NANOSECONDS),
+                               .tv_nsec = (long)(now % NANOSECONDS) };
     return 0;
 }
 EXPORT int gettimeofday(struct timeval *restrict time, void *restrict zone) {
     if (!is_tested()) return REAL(gettimeofday)(time, zone);
     uint64_t now = read_clock();
-    *time = (struct timeval){ .tv_sec = (time_t)(now / NANOSECONDS), .tv_usec = (suseconds_t)(now % NANOSECONDS / 1000) };
+    *time = (struct timeval){ .tv_sec = (time_t)(now / NANOSECONDS),
+                              .tv_usec = (suseconds_t)(now % NANOSECONDS / 1000) };
     return 0;
 }
 EXPORT time_t time(time_t *to) {
@@ -153,7 +157,9 @@ static long call_futex(const FutexCall *call) {
     }
 }
 
-static bool has_mask(int operation) { return operation == FUTEX_WAIT_BITSET || operation == FUTEX_WAKE_BITSET; }
+static bool has_mask(int operation) {
+    return operation == FUTEX_WAIT_BITSET || operation == FUTEX_WAKE_BITSET;
+}
 
 EXPORT long syscall(long number, ...) {
     ENTER();
@@ -162,10 +168,14 @@ EXPORT long syscall(long number, ...) {
     va_start(words, number);
     for (int i = 0; i < 6; i++) word[i] = va_arg(words, long);
     va_end(words);
-    if (number != SYS_futex || !is_tested()) return REAL(syscall)(number, word[0], word[1], word[2], word[3], word[4], word[5]);
+    if (number != SYS_futex || !is_tested())
+        return REAL(syscall)(number, word[0], word[1], word[2], word[3], word[4], word[5]);
     int operation = (int)word[1] & FUTEX_CMD_MASK;
-    FutexCall call = { .at = (volatile uint32_t *)word[0], .operation = operation, .value = (uint32_t)word[2],
+    FutexCall call = { .at = (volatile uint32_t *)word[0],
+                       .operation = operation,
+                       .value = (uint32_t)word[2],
                        .mask = has_mask(operation) ? (uint32_t)word[5] : UINT32_MAX };
-    if (operation == FUTEX_WAIT || operation == FUTEX_WAIT_BITSET) call.until = (const struct timespec *)word[3];
+    if (operation == FUTEX_WAIT || operation == FUTEX_WAIT_BITSET)
+        call.until = (const struct timespec *)word[3];
     return call_futex(&call);
 }

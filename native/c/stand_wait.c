@@ -1,26 +1,30 @@
 /*
- * Conditions, semaphores, barriers, and what is done once: who waits does so at its own semaphore of the
- * book, until another thread's step wakes it.
+ * Conditions, semaphores, barriers, and what is done once: who waits does so at its own semaphore
+ * of the book, until another thread's step wakes it.
  */
 #include "stand.h"
 
 #include <errno.h>
 #include <semaphore.h>
 
-/* --- Conditions: a signal wakes who has waited longest (with --chaos anybody), and no wait ends by itself
-   but with --chaos --- */
+/* --- Conditions: a signal wakes who has waited longest (with --chaos anybody), and no wait ends by
+   itself but with --chaos --- */
 
-static int await_signal(const volatile void *cond, const volatile void *mutex, bool is_timed, uint64_t deadline) {
+static int await_signal(const volatile void *cond, const volatile void *mutex, bool is_timed,
+                        uint64_t deadline) {
     bool is_chaotic = shared->plan.is_chaotic;
-    begin_wait(is_timed ? WAITS_FOR_TIME : WAITS_IN_QUEUE, cond); /* before any other thread's step */
+    begin_wait(is_timed ? WAITS_FOR_TIME : WAITS_IN_QUEUE,
+               cond); /* before any other thread's step */
     tell_unlocked(mutex);
     if (is_timed) wait_until(deadline);
-    if (is_chaotic && !mine()->is_woken && mine()->early_ends < 2 && draw_below(4) == 0) mine()->is_early = true;
+    if (is_chaotic && !mine()->is_woken && mine()->early_ends < 2 && draw_below(4) == 0)
+        mine()->is_early = true;
     bool is_late = finish_wait("waits for a signal", cond);
     return is_timed && is_late ? ETIMEDOUT : 0;
 }
 
-int cond_wait_at(const volatile void *cond, const volatile void *mutex, const struct timespec *until, clockid_t clock) {
+int cond_wait_at(const volatile void *cond, const volatile void *mutex,
+                 const struct timespec *until, clockid_t clock) {
     cancel_point();
     uint64_t deadline = until ? deadline_of(until, clock) : 0;
     uint32_t depth = let_go(mutex, "wait");
@@ -46,12 +50,14 @@ EXPORT int pthread_cond_wait(pthread_cond_t *cond, pthread_mutex_t *mutex) {
     return is_tested() ? cond_wait_at(cond, mutex, NULL, 0) : REAL(pthread_cond_wait)(cond, mutex);
 }
 /* The clock of a condition with an attribute stands in it. */
-EXPORT int pthread_cond_timedwait(pthread_cond_t *cond, pthread_mutex_t *mutex, const struct timespec *until) {
+EXPORT int pthread_cond_timedwait(pthread_cond_t *cond, pthread_mutex_t *mutex,
+                                  const struct timespec *until) {
     ENTER();
     if (!is_tested()) return REAL(pthread_cond_timedwait)(cond, mutex, until);
     return cond_wait_at(cond, mutex, until, CLOCK_REALTIME);
 }
-EXPORT int pthread_cond_clockwait(pthread_cond_t *cond, pthread_mutex_t *mutex, clockid_t clock, const struct timespec *until) {
+EXPORT int pthread_cond_clockwait(pthread_cond_t *cond, pthread_mutex_t *mutex, clockid_t clock,
+                                  const struct timespec *until) {
     ENTER();
     if (!is_tested()) return REAL(pthread_cond_clockwait)(cond, mutex, clock, until);
     return cond_wait_at(cond, mutex, until, clock);
@@ -161,7 +167,8 @@ EXPORT int sem_getvalue(sem_t *sem, int *value) {
 
 /* --- Barriers --- */
 
-EXPORT int pthread_barrier_init(pthread_barrier_t *barrier, const pthread_barrierattr_t *attr, unsigned count) {
+EXPORT int pthread_barrier_init(pthread_barrier_t *barrier, const pthread_barrierattr_t *attr,
+                                unsigned count) {
     int refused = REAL(pthread_barrier_init)(barrier, attr, count);
     if (is_tested() && !refused) {
         object_at(barrier)->size = count;
@@ -227,7 +234,8 @@ EXPORT int __cxa_guard_acquire(Guard *guard) {
     ENTER();
     while (!is_tested()) { /* as libstdc++'s: by the second byte */
         if (__atomic_load_n(&guard[0], __ATOMIC_ACQUIRE)) return 0;
-        if (!__atomic_exchange_n(&guard[1], 1, __ATOMIC_ACQUIRE)) return !__atomic_load_n(&guard[0], __ATOMIC_ACQUIRE);
+        if (!__atomic_exchange_n(&guard[1], 1, __ATOMIC_ACQUIRE))
+            return !__atomic_load_n(&guard[0], __ATOMIC_ACQUIRE);
         REAL(sched_yield)();
     }
     if (guard[0]) {

@@ -102,7 +102,8 @@ def summary(command: Sequence[str], found: Found) -> str:
     tail = f"; n {found.n}, k {found.k}"
     if not found.failing:
         return f"{title(command)}: passed in {found.tried} runs{tail}"
-    return f"{title(command)}: failed in {len(found.failing)} of {found.tried} runs{tail}; the shortest failing run:"
+    first = f"the first is run {found.first}; the shortest:"
+    return f"{title(command)}: failed in {len(found.failing)} of {found.tried} runs{tail}; {first}"
 
 
 def run_name(run: Run) -> str:

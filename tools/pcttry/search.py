@@ -45,6 +45,7 @@ class Found:
     n: int
     k: int
     tried: int = 0
+    first: int = 0  # up to the first failing one, from 1; 0 where none fails
     steps: int = 0
     failing: list[Run] = field(default_factory=list)
     declared: Run | None = None  # where that fails
@@ -141,11 +142,18 @@ class Search:
             if more:
                 self.n, self.is_over = max(more), True
                 continue
+            self.note_first(found, failing)
             found.failing += [run for run in failing if self.has_failed(run)]
             found.tried, found.steps = found.tried + tried, found.steps + steps
             last = min(last, found.tried + FURTHER) if found.failing else last
             self.is_over = found.tried >= last or len(found.failing) >= FAILING
         return found
+
+    def note_first(self, found: Found, failing: list[Run]) -> None:
+        low, high = self.settings.depths()
+        numbers = [(run.seed - self.settings.start) * (high - low + 1) + run.depth - low + 1 for run in failing
+                   if self.has_failed(run)]
+        found.first = found.first or min(numbers, default=0)
 
     def run(self) -> Found:
         self.begin()
