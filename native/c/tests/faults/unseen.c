@@ -1,4 +1,4 @@
-// A variable that is changed without a step, and one that its thread leaves alone.
+// A variable that two threads use, and that one of them changes without a step.
 #include "pct_test.h"
 
 static int x, y;
@@ -10,14 +10,16 @@ static void Writer(void) {
     pct_load(&x);
 }
 
+static void Reader(void) { pct_load(&x); }
+
 static void reset(void) {
     x = y = 0;
 }
 
 int main(int count, char **words) {
-    static const char *const names[] = { "Writer" };
-    static void (*const functions[])(void) = { Writer };
+    static const char *const names[] = { "Writer", "Reader" };
+    static void (*const functions[])(void) = { Writer, Reader };
     pct_options(count, words);
     pct_reset(reset);
-    return pct_threads(1, names, functions);
+    return pct_threads(2, names, functions);
 }
