@@ -104,15 +104,16 @@ impl<T: Test> Search<T> {
         })
     }
 
-    /// Makes the runs of the seeds, and calls `each` with them in the order of the seeds until it
+    /// Makes the runs of so many seeds, and calls `each` with them in the order of the seeds until it
     /// breaks.
     pub fn seeds(
         &mut self,
         depth: u32,
+        many: u64,
         each: &mut dyn FnMut(u64, Ran) -> ControlFlow<()>,
     ) -> Result<(), Stop> {
         let config = &self.settings.config;
-        let seeds = config.from..config.from.saturating_add(config.seeds);
+        let seeds = config.from..config.from.saturating_add(many);
         if config.jobs > 1 {
             return self.seeds_by_jobs(seeds, depth, each);
         }
@@ -290,7 +291,8 @@ fn rows_of<T: Test>(mut search: Search<T>, depth: u32) -> Result<Campaign, Strin
             .map(|first| crate::names::Names::of(first, search.threads))
             .unwrap_or_default();
         let mut sites = search.sites.clone();
-        let searched = search.seeds(depth, &mut |seed, ran| {
+        let many = search.settings.config.seeds;
+        let searched = search.seeds(depth, many, &mut |seed, ran| {
             sites.absorb(&ran.places);
             sum = summed(sum, &ran);
             let verdict = translated(&ran.outcome, |line| sites.line(&ran.places, line));

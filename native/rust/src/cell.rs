@@ -1,4 +1,4 @@
-//! A cell whose accesses are told to `races`, as Loom has it.
+//! A cell whose accesses are told to `races`, or looked at in each run, as Loom has it.
 
 use crate::place::Place;
 use crate::seat;
@@ -24,7 +24,8 @@ impl CellId {
 
 /// A cell for code that sees to its accesses itself. An access is no step. In the runs of
 /// [`races`](crate::races) it is kept, and two accesses that nothing orders, at least one of them
-/// by `with_mut`, are reported.
+/// by `with_mut`, are reported. With [`Config::races`](crate::Config::races) such a pair fails each
+/// run, and so do two that overlap.
 pub struct UnsafeCell<T: ?Sized> {
     id: CellId,
     inner: cell::UnsafeCell<T>,
@@ -46,24 +47,55 @@ impl<T: ?Sized> UnsafeCell<T> {
     /// Reads the value by a pointer, which the closure must not keep.
     #[track_caller]
     pub fn with<R>(&self, read: impl FnOnce(*const T) -> R) -> R {
-        self.tell(Place::of(Location::caller()), false);
+        let _access = self.access(false);
         read(self.inner.get())
     }
 
     /// Changes the value by a pointer, which the closure must not keep.
     #[track_caller]
     pub fn with_mut<R>(&self, write: impl FnOnce(*mut T) -> R) -> R {
-        self.tell(Place::of(Location::caller()), true);
+        let _access = self.access(true);
         write(self.inner.get())
     }
 
-    fn tell(&self, place: Place, is_write: bool) {
-        seat::current(|live, me| live.access(me, &self.id, place, is_write));
+    /// An access begins, and ends where this is dropped: for layers over this crate.
+    #[doc(hidden)]
+    #[track_caller]
+    pub fn access(&self, is_write: bool) -> Access {
+        let place = Place::of(Location::caller());
+        let cell = seat::current(|live, me| {
+            let cell = live.access(me, &self.id, place, is_write);
+            live.begin_access(me, cell, place, is_write);
+            cell
+        });
+        Access { cell, is_write }
+    }
+
+    /// Where the value is, which is no access: for layers over this crate.
+    #[doc(hidden)]
+    pub fn as_ptr(&self) -> *mut T {
+        self.inner.get()
     }
 
     /// The value. It is no access.
     pub fn get_mut(&mut self) -> &mut T {
         self.inner.get_mut()
+    }
+}
+
+/// An access of a cell that hasn't ended.
+#[doc(hidden)]
+#[derive(Debug)]
+pub struct Access {
+    cell: Option<u32>,
+    is_write: bool,
+}
+
+impl Drop for Access {
+    fn drop(&mut self) {
+        if let Some(cell) = self.cell {
+            seat::current(|live, me| live.end_access(me, cell, self.is_write));
+        }
     }
 }
 

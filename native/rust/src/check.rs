@@ -137,10 +137,9 @@ fn checked<T: Test>(settings: Settings, test: Arc<T>) -> Result<Option<String>, 
 /// The seeds of each depth, until the failures are enough. Not where a run starts more threads than
 /// an order has.
 fn has_run_all<T: Test>(search: &mut Search<T>, failures: &mut Failures) -> Result<bool, String> {
-    let depths = search.settings.config.depth.map_or(vec![1, 2, 3], |depth| vec![depth]);
-    for depth in depths {
+    for (depth, seeds) in shares(&search.settings.config) {
         let (mut is_enough, steps) = (false, search.steps);
-        let searched = search.seeds(depth, &mut |seed, ran| {
+        let searched = search.seeds(depth, seeds, &mut |seed, ran| {
             let flow = failures.take(ran, Some(Drawn { seed, depth, steps }));
             is_enough = flow.is_break();
             flow
@@ -153,6 +152,17 @@ fn has_run_all<T: Test>(search: &mut Search<T>, failures: &mut Failures) -> Resu
         }
     }
     Ok(true)
+}
+
+/// The depths, each with the number of its seeds.
+fn shares(config: &Config) -> Vec<(u32, u64)> {
+    let depths = config.depth.map_or(1..=config.deepest, |depth| depth..=depth);
+    let many = depths.clone().count() as u64;
+    let share = |index: u64| match config.runs {
+        None => config.seeds,
+        Some(runs) => (runs.saturating_sub(1) + many - 1 - index) / many,
+    };
+    depths.zip((0..many).map(|index| share(index).min(config.seeds))).collect()
 }
 
 /// Makes a failing run again, on fresh threads, and tells where it departs: the code isn't
@@ -218,4 +228,19 @@ pub(crate) fn single<T: Test>(
     })?;
     search.sites.absorb(&ran.places);
     Ok(search.told(ran, drawn))
+}
+
+#[cfg(test)]
+mod tests {
+    use super::*;
+
+    #[test]
+    fn runs_are_shared_by_the_depths() {
+        let of = |runs, deepest| shares(&Config { runs, deepest, ..Config::default() });
+        assert_eq!(of(None, 3), [(1, 1000), (2, 1000), (3, 1000)]);
+        assert_eq!(of(Some(1), 2), [(1, 0), (2, 0)]);
+        assert_eq!(of(Some(6), 3), [(1, 2), (2, 2), (3, 1)]);
+        let alone = Config { runs: Some(9), depth: Some(2), ..Config::default() };
+        assert_eq!(shares(&alone), [(2, 8)]);
+    }
 }

@@ -52,6 +52,13 @@ pub struct Config {
     /// Whether a runner and the threads of its runs are on one processor, which it claims: true.
     /// With one thread at a time a second one only costs.
     pub pin: bool,
+    /// Whether two accesses of a [`cell::UnsafeCell`](crate::cell::UnsafeCell) that overlap, or that
+    /// nothing orders, fail the run: false. The orderings that atomics and fences are given count.
+    pub races: bool,
+    /// The greatest depth that `check` takes where it has no depth, 1 to 8: 3.
+    pub deepest: u32,
+    /// How many runs `check` makes at most, that in declared order among them.
+    pub runs: Option<u64>,
     /// Whether a campaign makes a sum of all steps of all runs, by which two campaigns are
     /// compared.
     pub sum: bool,
@@ -73,6 +80,9 @@ impl Default for Config {
             patience: Duration::from_secs(10),
             stack: None,
             pin: true,
+            races: false,
+            deepest: 3,
+            runs: None,
             sum: false,
         }
     }
@@ -84,7 +94,9 @@ impl Config {
         let depth = self.depth.map(|depth| ("depth", depth, 1..=8));
         let threads = self.threads.map(|threads| ("threads", threads, 1..=64));
         let steps = self.steps.map(|steps| ("steps", steps, 1..=100_000));
-        let numbers = [depth, threads, steps, Some(("limit", self.limit, 1..=100_000))];
+        let limit = Some(("limit", self.limit, 1..=100_000));
+        let deepest = Some(("deepest", self.deepest, 1..=8));
+        let numbers = [depth, threads, steps, limit, deepest];
         let wrong =
             numbers.into_iter().flatten().find(|(_, number, range)| !range.contains(number));
         wrong.map(|(name, number, range)| {

@@ -20,19 +20,24 @@
 //! });
 //! ```
 
+mod accesses;
 mod ask;
 mod campaign;
 pub mod cell;
 mod check;
+mod clocks;
 mod config;
 mod directive;
 #[cfg(not(target_os = "linux"))]
 mod elsewhere;
 mod ffi;
 mod files;
+pub mod future;
 pub mod hint;
 mod image;
 mod json;
+#[doc(hidden)]
+pub mod layer;
 mod live;
 mod names;
 mod objects;

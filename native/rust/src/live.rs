@@ -334,13 +334,24 @@ impl Live {
         self.held().spins.goes_on(me);
     }
 
-    /// An access of a cell, for `races`.
-    pub fn access(&self, me: u32, id: &crate::cell::CellId, place: Place, is_write: bool) {
+    /// An access of a cell, for `races`: the cell's number.
+    pub fn access(&self, me: u32, id: &crate::cell::CellId, place: Place, is_write: bool) -> u32 {
         let mut state = self.held();
         let cell = id.number(self.id, &mut state.cells);
         if state.keeps_steps {
             let (after, line) = (state.steps, state.places.number(place));
             state.accesses.push(Access { after, thread: me, line, cell, is_write });
+        }
+        cell
+    }
+
+    /// Waits for the end of a thread, where it hasn't ended.
+    pub fn join(&self, me: u32, place: Place, target: u32) {
+        let has_ended = self.held().threads.has_ended(target);
+        if has_ended {
+            self.knows_ended(me, target);
+        } else {
+            self.ask(me, place, Late::Ask(Ask::of(kind::JOIN, target)));
         }
     }
 
@@ -387,6 +398,7 @@ impl Live {
         let told = seat::panicked().unwrap_or_else(|| Panicked {
             place: self.last_place(me),
             message: message.unwrap_or_else(unknown),
+            is_panic: true,
         });
         self.fail_by(me, told)
     }

@@ -1,6 +1,7 @@
 //! Numbers of objects: who has which, in a run.
 
 use crate::ask::kind;
+use crate::clocks::Tag;
 use crate::place::Place;
 use crate::raw::{Ask, Deal};
 use crate::seat;
@@ -49,6 +50,8 @@ impl Kind {
 pub struct Id {
     pub kind: Kind,
     word: AtomicU64,
+    /// By what clocks know an atomic.
+    pub(crate) tag: Tag,
 }
 
 impl Drop for Id {
@@ -60,7 +63,7 @@ impl Drop for Id {
 impl Id {
     /// Of an object that no run has used.
     pub const fn new(kind: Kind) -> Id {
-        Id { kind, word: AtomicU64::new(0) }
+        Id { kind, word: AtomicU64::new(0), tag: Tag::new() }
     }
 
     pub(crate) fn word(&self) -> Word {

@@ -19,7 +19,10 @@ pub(crate) fn sentence(run: &Run) -> String {
     let (thread, place) = (run.names.thread(outcome.thread), run.ran.place(outcome.line));
     match outcome.kind {
         FAILED => match &run.ran.panicked {
-            Some(told) => format!("thread {thread} panicked at {}: {}", told.place, told.message),
+            Some(told) if told.is_panic => {
+                format!("thread {thread} panicked at {}: {}", told.place, told.message)
+            }
+            Some(told) => format!("thread {thread} at {}: {}", told.place, told.message),
             None => format!("thread {thread} at {place}: pct::holds(false)"),
         },
         STUCK if run.is_livelock() => format!("a livelock: {}", waits(run)),
@@ -45,12 +48,14 @@ fn misuse(reason: u32) -> &'static str {
 /// What each thread waits for that hasn't ended.
 fn waits(run: &Run) -> String {
     let told = run.ran.asking.iter().map(|(thread, line, ask)| {
-        format!(
-            "{} waits at {} for {}",
-            run.names.thread(*thread),
-            run.ran.place(*line),
-            awaited(run, *thread, ask)
-        )
+        let (name, place) = (run.names.thread(*thread), run.ran.place(*line));
+        match run.ran.polled[*thread as usize] {
+            Some(last) => format!(
+                "{name} waits at {place} for a waker that nobody wakes: its future was polled last \
+                 until {last}"
+            ),
+            None => format!("{name} waits at {place} for {}", awaited(run, *thread, ask)),
+        }
     });
     told.collect::<Vec<_>>().join("; ")
 }

@@ -4,7 +4,7 @@
 use crate::ask::kind;
 use crate::config::Settings;
 use crate::live::Live;
-use crate::objects::{Kind, Objects};
+use crate::objects::{Kind, Objects, MOST};
 use crate::place::{Place, Places};
 use crate::pool::{self, Pool};
 use crate::raw::{Ask, Deal, Event, Outcome, Plan};
@@ -56,6 +56,8 @@ pub(crate) struct Ran {
     /// What was posted and not taken, by thread, at the end of a run that fails.
     pub asking: Vec<(u32, u32, Ask)>,
     pub panicked: Option<Panicked>,
+    /// Where a thread that polls and waits for a wake-up was last.
+    pub polled: [Option<Place>; MOST],
     pub parked: u32,
     pub accesses: Vec<Access>,
     pub cells: u32,
@@ -110,6 +112,7 @@ impl<T: Test> Runner<T> {
         let places = Places::new(self.settings.place.file);
         let mut state = State::new(order.plan.clone(), self.deal.clone(), limit, places);
         state.keeps_steps = order.keeps_steps;
+        state.checked = self.settings.config.races.then(Default::default);
         (state.seed, state.random) = (order.random, order.random);
         state.follow = self.follow.clone();
         state.threads.keep(&self.paths);
@@ -204,6 +207,7 @@ impl<T: Test> Runner<T> {
             places: state.places.clone(),
             asking: state.asking(),
             panicked: state.panicked.take(),
+            polled: state.polled,
             parked: state.parked,
             accesses: std::mem::take(&mut state.accesses),
             cells: state.cells,

@@ -130,7 +130,7 @@ fn keep(live: &Arc<Live>, me: u32, info: &PanicHookInfo<'_>) {
         || live.last_place(me),
         |location| Place { file: name_of(location.file()), line: location.line() },
     );
-    let told = Panicked { place, message: message_of(info.payload()) };
+    let told = Panicked { place, message: message_of(info.payload()), is_panic: true };
     SEAT.with(|seat| {
         let mut panicked = seat.panicked.borrow_mut();
         seat.unwinding.set(seat.unwinding.get() + 1);

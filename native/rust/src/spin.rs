@@ -48,13 +48,18 @@ pub(crate) enum Look {
 impl Spins {
     /// Keeps up with a step.
     pub fn took(&mut self, thread: u32, ask: &Ask, answer: i64) {
-        if self.own >> thread & 1 == 1 {
+        if self.is_own(thread) {
             return;
         }
         self.looked |= 1 << thread;
         if ask.changes(answer) {
             self.changes(thread);
         }
+    }
+
+    /// Whether its step is one of this module.
+    pub fn is_own(&self, thread: u32) -> bool {
+        self.own >> thread & 1 == 1
     }
 
     /// The thread has changed something.

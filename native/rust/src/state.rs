@@ -1,6 +1,7 @@
 //! What a run's threads share under the baton: the book, the asks that aren't posted yet, the
 //! numbers of objects and threads.
 
+use crate::accesses::Checked;
 use crate::ask::{kind, Late};
 use crate::ffi::Book;
 use crate::objects::{Kind, Objects, MOST};
@@ -43,11 +44,13 @@ pub(crate) struct Access {
     pub is_write: bool,
 }
 
-/// A panic that fails its run.
+/// A panic, or what this crate says of a fault, that fails its run.
 #[derive(Clone, Debug)]
 pub(crate) struct Panicked {
     pub place: Place,
     pub message: String,
+    /// Whether the code panicked: else this crate found that something is wrong.
+    pub is_panic: bool,
 }
 
 pub(crate) struct State {
@@ -66,6 +69,10 @@ pub(crate) struct State {
     pub rebuilt: u32,
     pub accesses: Vec<Access>,
     pub cells: u32,
+    /// Where accesses are looked at in each run.
+    pub checked: Option<Checked>,
+    /// Where a thread that polls and waits for a wake-up was last.
+    pub polled: [Option<Place>; MOST],
     /// Where `random` began.
     pub seed: u64,
     pub random: u64,
@@ -101,6 +108,8 @@ impl State {
             rebuilt: 0,
             accesses: Vec::new(),
             cells: 0,
+            checked: None,
+            polled: [None; MOST],
             seed: 0,
             random: 0,
             panicked: None,
@@ -175,6 +184,9 @@ impl State {
         self.steps += 1;
         self.tell(self.steps, thread, line, *ask, answer);
         self.objects.took(ask, answer);
+        if let Some(checked) = self.checked.as_mut().filter(|_| !self.spins.is_own(thread)) {
+            checked.clocks.took(thread, ask, answer);
+        }
         self.spins.took(thread, ask, answer);
     }
 

@@ -97,6 +97,11 @@ impl Threads {
         self.all.iter().find(|thread| thread.number == number)
     }
 
+    /// The numbers of all threads, of those that have ended too.
+    pub fn numbers(&self) -> impl Iterator<Item = u32> + '_ {
+        self.all.iter().map(|thread| thread.number)
+    }
+
     /// The number of a thread by its name.
     pub fn named(&self, name: &str) -> Option<u32> {
         self.all

@@ -36,9 +36,7 @@ impl Semaphore {
         self.count.lock().unwrap_or_else(|poisoned| poisoned.into_inner())
     }
 
-    #[track_caller]
-    fn step(&self, ask: u32) -> Option<i64> {
-        let place = Place::of(Location::caller());
+    fn step(&self, ask: u32, place: Place) -> Option<i64> {
         if self.first > i32::MAX as u32 {
             seat::current(|live, _| {
                 live.stop(format!("{place}: in a run a semaphore begins with at most {}", i32::MAX))
@@ -50,7 +48,11 @@ impl Semaphore {
     /// Waits until the count is above 0, and lowers it: one step.
     #[track_caller]
     pub fn down(&self) {
-        if self.step(kind::DOWN).is_none() {
+        self.down_at(Place::of(Location::caller()));
+    }
+
+    pub(crate) fn down_at(&self, place: Place) {
+        if self.step(kind::DOWN, place).is_none() {
             let mut count = self.count();
             while *count == 0 {
                 count = self.raised.wait(count).unwrap_or_else(|poisoned| poisoned.into_inner());
@@ -68,13 +70,14 @@ impl Semaphore {
             *count -= u32::from(is_there);
             is_there
         };
-        self.step(kind::TRY_DOWN).map_or_else(apart, |answer| answer == 1)
+        self.step(kind::TRY_DOWN, Place::of(Location::caller()))
+            .map_or_else(apart, |answer| answer == 1)
     }
 
     /// Raises the count: one step.
     #[track_caller]
     pub fn up(&self) {
-        if self.step(kind::UP).is_none() {
+        if self.step(kind::UP, Place::of(Location::caller())).is_none() {
             *self.count() += 1;
             self.raised.notify_one();
         }

@@ -61,6 +61,10 @@ pub fn park_timeout_ms(ms: u32) {
 /// Whether it is in a run, where it waits for a change.
 #[track_caller]
 pub(crate) fn look() -> bool {
-    let place = Place::of(Location::caller());
+    look_at(Place::of(Location::caller()))
+}
+
+/// As [`look`], of that place.
+pub(crate) fn look_at(place: Place) -> bool {
     seat::current(|live, me| live.look(me, place)).is_some()
 }

@@ -1,10 +1,9 @@
 //! Handles to threads, and parking.
 
 use super::look;
+use crate::layer::Token;
 use crate::live::Live;
 use crate::seat;
-use crate::sync::atomic::{AtomicBool, Ordering::SeqCst};
-use crate::sync::Semaphore;
 use std::cell::RefCell;
 use std::sync::Arc;
 use std::time::Duration;
@@ -24,8 +23,7 @@ struct Inner {
     run: u32,
     number: u32,
     name: Option<String>,
-    has_token: AtomicBool,
-    tokens: Semaphore,
+    token: Token,
 }
 
 /// Tells threads apart.
@@ -48,13 +46,7 @@ impl Thread {
     }
 
     pub(crate) fn of_run(live: &Live, number: u32, name: Option<String>) -> Thread {
-        let inner = Inner {
-            run: live.id,
-            number,
-            name,
-            has_token: AtomicBool::new(false),
-            tokens: Semaphore::new(0),
-        };
+        let inner = Inner { run: live.id, number, name, token: Token::new() };
         Thread(Kind::Run(Arc::new(inner)))
     }
 
@@ -73,11 +65,7 @@ impl Thread {
     pub fn unpark(&self) {
         match &self.0 {
             Kind::Std(thread) => thread.unpark(),
-            Kind::Run(inner) => {
-                if inner.has_token.compare_exchange(false, true, SeqCst, SeqCst).is_ok() {
-                    inner.tokens.up();
-                }
-            }
+            Kind::Run(inner) => inner.token.give(),
         }
     }
 
@@ -135,10 +123,7 @@ pub fn current() -> Thread {
 pub fn park() {
     match current().0 {
         Kind::Std(_) => std::thread::park(),
-        Kind::Run(inner) => {
-            inner.tokens.down();
-            inner.has_token.store(false, SeqCst);
-        }
+        Kind::Run(inner) => inner.token.take(),
     }
 }
 

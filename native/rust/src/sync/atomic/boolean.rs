@@ -1,7 +1,10 @@
 //! The atomic bool.
 
-use super::{operate, Cell, Operation};
+use super::{operate, operate_at, plain, Cell, Operation};
+use crate::clocks::Use;
 use crate::objects::{Id, Kind};
+use crate::place::Place;
+use std::panic::Location;
 use std::sync::atomic::Ordering::{self, Relaxed};
 
 /// An atomic bool: 1 where it is true, in reports.
@@ -30,7 +33,7 @@ macro_rules! changes {
         #[track_caller]
         pub fn $name(&self, by: bool, order: Ordering) -> bool {
             let change = |old, by| i64::from(($change)(old != 0, by != 0));
-            match operate(self, Operation::Change { change, by: i64::from(by), sum: None }) {
+            match operate(self, Operation::Change { change, by: i64::from(by), sum: None }, order) {
                 Some(old) => old != 0,
                 None => self.inner.$name(by, order),
             }
@@ -55,10 +58,25 @@ impl AtomicBool {
         self.inner.load(Relaxed)
     }
 
+    /// The value as that of plain memory: no step. For layers over this crate.
+    #[doc(hidden)]
+    #[track_caller]
+    pub fn plain(&self) -> bool {
+        plain(self, Use::PlainLoad) != 0
+    }
+
+    /// The value is about to be changed as that of plain memory: no step. For layers over this
+    /// crate.
+    #[doc(hidden)]
+    #[track_caller]
+    pub fn plain_change(&self) {
+        plain(self, Use::PlainChange);
+    }
+
     /// The value: one step, `read`.
     #[track_caller]
     pub fn load(&self, order: Ordering) -> bool {
-        match operate(self, Operation::Load) {
+        match operate(self, Operation::Load, order) {
             Some(value) => value != 0,
             None => self.inner.load(order),
         }
@@ -67,7 +85,11 @@ impl AtomicBool {
     /// Sets the value: one step, `write`.
     #[track_caller]
     pub fn store(&self, value: bool, order: Ordering) {
-        if operate(self, Operation::Store(i64::from(value))).is_none() {
+        self.store_at(value, order, Place::of(Location::caller()));
+    }
+
+    pub(crate) fn store_at(&self, value: bool, order: Ordering, place: Place) {
+        if operate_at(self, Operation::Store(i64::from(value)), order.into(), place).is_none() {
             self.inner.store(value, order);
         }
     }
@@ -92,7 +114,8 @@ impl AtomicBool {
         success: Ordering,
         failure: Ordering,
     ) -> Result<bool, bool> {
-        match operate(self, Operation::Exchange { old: i64::from(current), new: i64::from(new) }) {
+        let exchange = Operation::Exchange { old: i64::from(current), new: i64::from(new) };
+        match operate(self, exchange, (success, failure)) {
             Some(old) if (old != 0) == current => Ok(current),
             Some(old) => Err(old != 0),
             None => self.inner.compare_exchange(current, new, success, failure),
@@ -108,7 +131,8 @@ impl AtomicBool {
         success: Ordering,
         failure: Ordering,
     ) -> Result<bool, bool> {
-        match operate(self, Operation::Exchange { old: i64::from(current), new: i64::from(new) }) {
+        let exchange = Operation::Exchange { old: i64::from(current), new: i64::from(new) };
+        match operate(self, exchange, (success, failure)) {
             Some(old) if (old != 0) == current => Ok(current),
             Some(old) => Err(old != 0),
             None => self.inner.compare_exchange_weak(current, new, success, failure),

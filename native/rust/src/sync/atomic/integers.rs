@@ -1,6 +1,7 @@
 //! Atomic integers.
 
-use super::{operate, Cell, Operation};
+use super::{operate, plain, Cell, Operation};
+use crate::clocks::Use;
 use crate::objects::{Id, Kind};
 use std::sync::atomic::Ordering::{self, Relaxed};
 
@@ -43,10 +44,25 @@ macro_rules! integer {
                 self.inner.load(Relaxed)
             }
 
+            /// The value as that of plain memory: no step. For layers over this crate.
+            #[doc(hidden)]
+            #[track_caller]
+            pub fn plain(&self) -> $value {
+                plain(self, Use::PlainLoad) as $value
+            }
+
+            /// The value is about to be changed as that of plain memory: no step. For layers over this
+            /// crate.
+            #[doc(hidden)]
+            #[track_caller]
+            pub fn plain_change(&self) {
+                plain(self, Use::PlainChange);
+            }
+
             /// The value: one step, `read`.
             #[track_caller]
             pub fn load(&self, order: Ordering) -> $value {
-                match operate(self, Operation::Load) {
+                match operate(self, Operation::Load, order) {
                     Some(value) => value as $value,
                     None => self.inner.load(order),
                 }
@@ -55,7 +71,7 @@ macro_rules! integer {
             /// Sets the value: one step, `write`.
             #[track_caller]
             pub fn store(&self, value: $value, order: Ordering) {
-                if operate(self, Operation::Store(value as i64)).is_none() {
+                if operate(self, Operation::Store(value as i64), order).is_none() {
                     self.inner.store(value, order);
                 }
             }
@@ -64,7 +80,7 @@ macro_rules! integer {
             #[track_caller]
             pub fn swap(&self, value: $value, order: Ordering) -> $value {
                 let swap = Operation::Change { change: |_, by| by, by: value as i64, sum: None };
-                match operate(self, swap) {
+                match operate(self, swap, order) {
                     Some(old) => old as $value,
                     None => self.inner.swap(value, order),
                 }
@@ -99,7 +115,8 @@ macro_rules! integer {
                 success: Ordering,
                 failure: Ordering,
             ) -> Result<$value, $value> {
-                match operate(self, Operation::Exchange { old: current as i64, new: new as i64 }) {
+                let exchange = Operation::Exchange { old: current as i64, new: new as i64 };
+                match operate(self, exchange, (success, failure)) {
                     Some(old) if old as $value == current => Ok(current),
                     Some(old) => Err(old as $value),
                     None => self.inner.compare_exchange(current, new, success, failure),
@@ -115,7 +132,8 @@ macro_rules! integer {
                 success: Ordering,
                 failure: Ordering,
             ) -> Result<$value, $value> {
-                match operate(self, Operation::Exchange { old: current as i64, new: new as i64 }) {
+                let exchange = Operation::Exchange { old: current as i64, new: new as i64 };
+                match operate(self, exchange, (success, failure)) {
                     Some(old) if old as $value == current => Ok(current),
                     Some(old) => Err(old as $value),
                     None => self.inner.compare_exchange_weak(current, new, success, failure),
@@ -171,7 +189,7 @@ macro_rules! integer {
             pub fn fetch_add(&self, by: $value, order: Ordering) -> $value {
                 let change = |old, by| (old as $value).wrapping_add(by as $value) as i64;
                 let sum = Some(by as i64);
-                match operate(self, Operation::Change { change, by: by as i64, sum }) {
+                match operate(self, Operation::Change { change, by: by as i64, sum }, order) {
                     Some(old) => old as $value,
                     None => self.inner.fetch_add(by, order),
                 }
@@ -183,7 +201,7 @@ macro_rules! integer {
             pub fn fetch_sub(&self, by: $value, order: Ordering) -> $value {
                 let change = |old, by| (old as $value).wrapping_sub(by as $value) as i64;
                 let sum = (by as i64).checked_neg();
-                match operate(self, Operation::Change { change, by: by as i64, sum }) {
+                match operate(self, Operation::Change { change, by: by as i64, sum }, order) {
                     Some(old) => old as $value,
                     None => self.inner.fetch_sub(by, order),
                 }
@@ -226,7 +244,7 @@ macro_rules! integer {
         #[track_caller]
         pub fn $name(&self, by: $value, order: Ordering) -> $value {
             let change = |old, by| ($change)(old as $value, by as $value) as i64;
-            match operate(self, Operation::Change { change, by: by as i64, sum: None }) {
+            match operate(self, Operation::Change { change, by: by as i64, sum: None }, order) {
                 Some(old) => old as $value,
                 None => self.inner.$name(by, order),
             }

@@ -14,6 +14,7 @@ pub use pointer::AtomicPtr;
 pub use std::sync::atomic::Ordering;
 
 use crate::ask::{kind, Change, Late};
+use crate::clocks::Use;
 use crate::live::{Answer, Live};
 use crate::objects::{Id, Word};
 use crate::place::Place;
@@ -21,8 +22,9 @@ use crate::raw::Ask;
 use crate::seat;
 use std::panic::Location;
 
-/// A fence. In a run all is `SeqCst` without it, so it is no step.
+/// A fence. In a run all values are as with `SeqCst` without it, so it is no step.
 pub fn fence(order: Ordering) {
+    seat::current(|live, me| live.fence(me, order));
     std::sync::atomic::fence(order);
 }
 
@@ -46,6 +48,25 @@ pub(crate) trait Cell {
     fn id(&self) -> &Id;
     fn get(&self) -> i64;
     fn set(&self, value: i64);
+}
+
+/// The orderings of an operation: where it is done, and where an exchange fails.
+#[derive(Clone, Copy)]
+pub(crate) struct Orders {
+    done: Ordering,
+    failed: Ordering,
+}
+
+impl From<Ordering> for Orders {
+    fn from(order: Ordering) -> Orders {
+        Orders { done: order, failed: order }
+    }
+}
+
+impl From<(Ordering, Ordering)> for Orders {
+    fn from((done, failed): (Ordering, Ordering)) -> Orders {
+        Orders { done, failed }
+    }
 }
 
 /// An operation on an atomic.
@@ -85,6 +106,16 @@ impl Operation {
         }
     }
 
+    /// How the atomic was used by it, where this value stood before.
+    fn usage(&self, value: i64, orders: Orders) -> Use {
+        match *self {
+            Operation::Load => Use::Load(orders.done),
+            Operation::Store(_) => Use::Store(orders.done),
+            Operation::Exchange { old, .. } if old != value => Use::Load(orders.failed),
+            Operation::Exchange { .. } | Operation::Change { .. } => Use::Change(orders.done),
+        }
+    }
+
     /// Whether the step was the one that the value wants. None where the book says otherwise than
     /// the object.
     fn agrees(&self, value: i64, answer: Answer) -> Option<bool> {
@@ -101,13 +132,28 @@ impl Operation {
 
 /// Makes an operation in a run and gives the value before it; none outside of one.
 #[track_caller]
-pub(crate) fn operate<C: Cell>(cell: &C, operation: Operation) -> Option<i64> {
-    let place = Place::of(Location::caller());
+pub(crate) fn operate<C: Cell>(
+    cell: &C,
+    operation: Operation,
+    orders: impl Into<Orders>,
+) -> Option<i64> {
+    operate_at(cell, operation, orders.into(), Place::of(Location::caller()))
+}
+
+/// As [`operate`], of that place.
+pub(crate) fn operate_at<C: Cell>(
+    cell: &C,
+    operation: Operation,
+    orders: Orders,
+    place: Place,
+) -> Option<i64> {
     seat::current(|live, me| {
         let is_static = matches!(cell.id().word(), Word::Static)
             || matches!(cell.id().word(), Word::Unused) && crate::image::has(cell.id().address());
         if is_static {
-            return operate_static(live, me, cell, operation, place);
+            let value = operate_static(live, me, cell, operation, place);
+            live.used(me, &cell.id().tag, place, operation.usage(value, orders));
+            return value;
         }
         let first = C::IS_NUMBERED.then(|| cell.get());
         let number = live.number(cell.id(), first, place);
@@ -116,6 +162,7 @@ pub(crate) fn operate<C: Cell>(cell: &C, operation: Operation) -> Option<i64> {
             let value = cell.get();
             if agree(live, me, operation, value, answer, place) {
                 operation.after(value).into_iter().for_each(|new| cell.set(new));
+                live.used(me, &cell.id().tag, place, operation.usage(value, orders));
                 return value;
             }
         }
@@ -164,6 +211,20 @@ fn operate_static<C: Cell>(
             return value;
         }
     }
+}
+
+/// The value, taken as that of plain memory, which it may change to: no step.
+#[track_caller]
+pub(crate) fn plain<C: Cell>(cell: &C, usage: Use) -> i64 {
+    let place = Place::of(Location::caller());
+    let found = seat::current(|live, me| {
+        live.used(me, &cell.id().tag, place, usage);
+        match cell.id().word() {
+            Word::Static => live.static_value(cell.id(), cell.get(), C::IS_NUMBERED, place).value,
+            _ => cell.get(),
+        }
+    });
+    found.unwrap_or_else(|| cell.get())
 }
 
 /// By what a run knows an atomic, and its first value.

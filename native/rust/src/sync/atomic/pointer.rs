@@ -1,7 +1,8 @@
 //! The atomic pointer. The book has no variables for pointers, so each operation is a step that
 //! touches nothing.
 
-use super::{operate, Cell, Operation};
+use super::{operate, plain, Cell, Operation};
+use crate::clocks::Use;
 use crate::objects::{Id, Kind};
 use std::ptr;
 use std::sync::atomic::Ordering::{self, Relaxed};
@@ -53,16 +54,31 @@ impl<T> AtomicPtr<T> {
         self.inner.load(Relaxed)
     }
 
+    /// The value as that of plain memory: no step. For layers over this crate.
+    #[doc(hidden)]
+    #[track_caller]
+    pub fn plain(&self) -> *mut T {
+        pointer(plain(self, Use::PlainLoad))
+    }
+
+    /// The value is about to be changed as that of plain memory: no step. For layers over this
+    /// crate.
+    #[doc(hidden)]
+    #[track_caller]
+    pub fn plain_change(&self) {
+        plain(self, Use::PlainChange);
+    }
+
     /// The value.
     #[track_caller]
     pub fn load(&self, order: Ordering) -> *mut T {
-        operate(self, Operation::Load).map_or_else(|| self.inner.load(order), pointer)
+        operate(self, Operation::Load, order).map_or_else(|| self.inner.load(order), pointer)
     }
 
     /// Sets the value.
     #[track_caller]
     pub fn store(&self, value: *mut T, order: Ordering) {
-        if operate(self, Operation::Store(number(value))).is_none() {
+        if operate(self, Operation::Store(number(value)), order).is_none() {
             self.inner.store(value, order);
         }
     }
@@ -70,8 +86,8 @@ impl<T> AtomicPtr<T> {
     /// Sets the value, and gives the old one.
     #[track_caller]
     pub fn swap(&self, value: *mut T, order: Ordering) -> *mut T {
-        operate(self, Operation::Store(number(value)))
-            .map_or_else(|| self.inner.swap(value, order), pointer)
+        let swap = Operation::Change { change: |_, by| by, by: number(value), sum: None };
+        operate(self, swap, order).map_or_else(|| self.inner.swap(value, order), pointer)
     }
 
     /// Sets the value where it is `current`, and gives the old one.
@@ -94,7 +110,8 @@ impl<T> AtomicPtr<T> {
         success: Ordering,
         failure: Ordering,
     ) -> Result<*mut T, *mut T> {
-        match operate(self, Operation::Exchange { old: number(current), new: number(new) }) {
+        let exchange = Operation::Exchange { old: number(current), new: number(new) };
+        match operate(self, exchange, (success, failure)) {
             Some(old) if old == number(current) => Ok(current),
             Some(old) => Err(pointer(old)),
             None => self.inner.compare_exchange(current, new, success, failure),
@@ -110,7 +127,8 @@ impl<T> AtomicPtr<T> {
         success: Ordering,
         failure: Ordering,
     ) -> Result<*mut T, *mut T> {
-        match operate(self, Operation::Exchange { old: number(current), new: number(new) }) {
+        let exchange = Operation::Exchange { old: number(current), new: number(new) };
+        match operate(self, exchange, (success, failure)) {
             Some(old) if old == number(current) => Ok(current),
             Some(old) => Err(pointer(old)),
             None => self.inner.compare_exchange_weak(current, new, success, failure),
@@ -162,10 +180,10 @@ impl<T> AtomicPtr<T> {
 
     /// One step that changes the value by its address.
     #[track_caller]
-    fn change(&self, change: fn(i64, i64) -> i64, by: usize) -> *mut T {
+    fn change(&self, change: fn(i64, i64) -> i64, by: usize, order: Ordering) -> *mut T {
         let by = by as i64;
         let apart = |old: *mut T| Some(old.map_addr(|address| change(address as i64, by) as usize));
-        operate(self, Operation::Change { change, by, sum: None }).map_or_else(
+        operate(self, Operation::Change { change, by, sum: None }, order).map_or_else(
             || {
                 self.inner
                     .fetch_update(Ordering::SeqCst, Ordering::SeqCst, apart)
@@ -177,44 +195,44 @@ impl<T> AtomicPtr<T> {
 
     /// Moves the pointer on by this many values, and gives the old one.
     #[track_caller]
-    pub fn fetch_ptr_add(&self, count: usize, _order: Ordering) -> *mut T {
-        self.change(i64::wrapping_add, count.wrapping_mul(size_of::<T>()))
+    pub fn fetch_ptr_add(&self, count: usize, order: Ordering) -> *mut T {
+        self.change(i64::wrapping_add, count.wrapping_mul(size_of::<T>()), order)
     }
 
     /// Moves the pointer back by this many values, and gives the old one.
     #[track_caller]
-    pub fn fetch_ptr_sub(&self, count: usize, _order: Ordering) -> *mut T {
-        self.change(i64::wrapping_sub, count.wrapping_mul(size_of::<T>()))
+    pub fn fetch_ptr_sub(&self, count: usize, order: Ordering) -> *mut T {
+        self.change(i64::wrapping_sub, count.wrapping_mul(size_of::<T>()), order)
     }
 
     /// Moves the pointer on by this many bytes, and gives the old one.
     #[track_caller]
-    pub fn fetch_byte_add(&self, count: usize, _order: Ordering) -> *mut T {
-        self.change(i64::wrapping_add, count)
+    pub fn fetch_byte_add(&self, count: usize, order: Ordering) -> *mut T {
+        self.change(i64::wrapping_add, count, order)
     }
 
     /// Moves the pointer back by this many bytes, and gives the old one.
     #[track_caller]
-    pub fn fetch_byte_sub(&self, count: usize, _order: Ordering) -> *mut T {
-        self.change(i64::wrapping_sub, count)
+    pub fn fetch_byte_sub(&self, count: usize, order: Ordering) -> *mut T {
+        self.change(i64::wrapping_sub, count, order)
     }
 
     /// Sets the bits that the address or the operand has, and gives the old pointer.
     #[track_caller]
-    pub fn fetch_or(&self, bits: usize, _order: Ordering) -> *mut T {
-        self.change(|old, by| old | by, bits)
+    pub fn fetch_or(&self, bits: usize, order: Ordering) -> *mut T {
+        self.change(|old, by| old | by, bits, order)
     }
 
     /// Leaves the bits that both have, and gives the old pointer.
     #[track_caller]
-    pub fn fetch_and(&self, bits: usize, _order: Ordering) -> *mut T {
-        self.change(|old, by| old & by, bits)
+    pub fn fetch_and(&self, bits: usize, order: Ordering) -> *mut T {
+        self.change(|old, by| old & by, bits, order)
     }
 
     /// Sets the bits that just one has, and gives the old pointer.
     #[track_caller]
-    pub fn fetch_xor(&self, bits: usize, _order: Ordering) -> *mut T {
-        self.change(|old, by| old ^ by, bits)
+    pub fn fetch_xor(&self, bits: usize, order: Ordering) -> *mut T {
+        self.change(|old, by| old ^ by, bits, order)
     }
 }
 

@@ -1,0 +1,3 @@
+//! [Loom](https://github.com/tokio-rs/loom)'s calls over pct, as version 0.7.2: see the package pct-loom.
+
+pub use pct_loom::*;

@@ -1,0 +1,3 @@
+//! Hints.
+
+pub use pct::hint::*;
