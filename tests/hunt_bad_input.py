@@ -35,7 +35,7 @@ def words(room):
     yield "no GNU parallel", says(hunt(SCRIPT, "--sshlogin", ":", *FEW, env={"PATH": os.path.dirname(sys.executable)}),
                                   2,
                                   "needs GNU parallel")
-    done = subprocess.run([*HUNT, "/dev/stdin", *FEW], input=read(SCRIPT), capture_output=True, text=True, check=False)
+    done = subprocess.run([*HUNT, "-", *FEW], input=read(SCRIPT), capture_output=True, text=True, check=False)
     yield "a pipe as the script", done.returncode == 0 and "nothing failed" in done.stdout
     yield from without_pct(room)
 
@@ -148,7 +148,8 @@ def interruptions(room):
         yield f"while {command} goes on", (status, said) == (1, "") and is_told and lacks not in text
         yield f"while {command} goes on: what was there", command == "races" or has in text
     status, text, said = interrupted_at(room, "certify", "--json")
-    yield "a document", (status, said) == (1, "") and '"kind":"failed"' in text and '"tried"' not in text
+    is_said = said.startswith("hunt: interrupted; it goes on by pct-hunt ") and said.count("\n") == 1
+    yield "a document", status == 1 and is_said and '"kind":"failed"' in text and '"tried"' not in text
 
 
 def slow_scripts(room):

@@ -5,7 +5,6 @@ from __future__ import annotations
 import argparse
 import os
 import shutil
-import signal
 import sys
 import tempfile
 import time
@@ -16,7 +15,10 @@ from pcthunt.document import put as document_text
 from pcthunt.expected import check_expectation, expectation, is_as_expected
 from pcthunt.hunting import Hunt
 from pcthunt.machine_forms import Outcome, annotation_lines, junit, line_of
-from pcthunt.output import BAD_SCRIPT, DONE, FOUND, USAGE, WRITE_FAULT, Refused, keep, put, read, shown
+from pcthunt.inputs import MOST_SCRIPT, check_names, check_output, read, without_fifos
+from pcthunt.interruptions import INTERRUPTIONS
+from pcthunt.output import (BAD_SCRIPT, DONE, FOUND, INTERRUPTED, READ_FAULT, USAGE, WRITE_FAULT, Refused, is_at_github,
+                            keep, put, reason, say, shown, shown_lines)
 from pcthunt.page import page_words, write_page
 from pcthunt.program import Program
 from pcthunt.why import why_words
@@ -25,9 +27,6 @@ from pcthunt.rounds import Crew, Parts
 from pcthunt.shorter import Source
 from pcthunt.settings import Settings, processors
 
-INTERRUPTED = 130
-MOST_SCRIPT = 1048577  # bytes, and one more than a script may have
-
 HELP = """Looks for the orders of steps in which a script goes wrong, and tells what happens in each, by pct alone.
 
 A hunt goes in rounds: 200 seeds at depth 1, and then a campaign at each of the depths 2, 3 and 4. Failures that are
@@ -35,16 +34,19 @@ one bug come under one heading, each with its shortest run, where its values cam
 and a directive that certifies it. SCRIPT may be a folder: then each of its scripts has to come to what its line
 '# hunt: passes', '# hunt: fails' or '# hunt: VERDICT' says, or NAME.expect beside it; to pass where there is none."""
 STATUS = """The status is 0 where nothing failed (of a folder: where each script came to what it should), 1 where
-something did, 2 for words that aren't taken, 3 for a script that is refused, 6 and 7 for files and output that can't be
-read or written, 8 where there is no memory, and 130 where it was interrupted before anything failed, or its time was
-over before a run came to its end. 'pct-hunt --why run FILE ..' says why pct refuses these words or files, and what it
-wants in their place. 'pct-hunt --page DOCUMENT.json [--html FILE]' writes the page of a document that it or a layer for
-real threads wrote."""
+something did, 2 for words that aren't taken, 3 for a script that is refused, 4 for a document or a trace and 5 for a
+directive that is, 6 and 7 for files and output that can't be read or written, 8 where there is no memory or no thread
+left, 9 where the tool or pct has an error of its own, and, where nothing failed, 130 where SIGINT and 143 where SIGTERM
+came before its end, or 130 where its time was over before a run came to its end.
+
+'pct-hunt --why run FILE ..' says why pct refuses these words or files, and what it wants in their place. 'pct-hunt
+--page DOCUMENT.json [--html FILE]' writes the page of a document that it or a layer for real threads wrote. A file is
+at most 64 MiB, '-' the standard input, and a FIFO or a device is read where '--fifo' stands before its name."""
 
 
 def number(least: int, most: int) -> Callable[[str], int]:
     def value(word: str) -> int:
-        if not (word.isascii() and word.isdecimal() and least <= int(word) <= most):
+        if not (word.isascii() and word.isdecimal() and len(word) <= 20 and least <= int(word) <= most):
             raise argparse.ArgumentTypeError(f"'{word}' is none of {least} to {most}")
         return int(word)
     return value
@@ -139,8 +141,11 @@ class Session:
             return MachineParts(self.program, hunt.source.forms[0].path, self.crew, self.settings.sshlogin)
         return Parts(self.program, hunt.source.forms[0].path, self.crew)
 
-    def outcome(self, path: str, wanted: str | None = None) -> Outcome:
-        """The outcome of a script that should come to what is wanted, or to what it says itself."""
+    def outcome(self, path: str, wanted: str | None = None) -> Outcome | None:
+        """The outcome of a script that should come to what is wanted, or to what it says itself; None where a signal
+        came before anything failed."""
+        if INTERRUPTIONS.count:
+            return None
         begun = time.monotonic()
         try:
             where = ""
@@ -148,12 +153,16 @@ class Session:
                 wanted, where = expectation(path, read(path, MOST_SCRIPT).decode(errors="replace"))
             result = self.hunt(path)
             check_expectation(path, wanted, where, self.hunts[-1].script)
+        except KeyboardInterrupt:
+            return None
         except Refused as refused:
             if refused.status not in (USAGE, BAD_SCRIPT):
                 raise
             lines = refused.why.split("\n")
             line = next((int(it[5:].split(":")[0]) for it in lines[0].split(": ") if it.startswith("line ")), 1)
             return Outcome(path, wanted or "", False, refused.why, line)
+        if INTERRUPTIONS.count and not result.has_failed():
+            return None
         is_well = is_as_expected(wanted, result)
         verdicts = sorted({case.heading.best().verdict for case in result.cases})
         came = "; ".join(verdicts) or "nothing failed"
@@ -163,9 +172,10 @@ class Session:
 
 
 def one_script(session: Session, given: argparse.Namespace) -> int:
+    check_output("--html", given.html, [given.script])
+    check_output("--junit", given.junit, [given.script])
     result = session.hunt(given.script)
-    is_done = result.has_run() and result.why_ended != "interrupted"
-    status = FOUND if result.has_failed() else DONE if is_done else INTERRUPTED
+    status = FOUND if result.has_failed() else INTERRUPTIONS.status or (DONE if result.has_run() else INTERRUPTED)
     hunt = session.hunts[-1]
     document = hunt.document(status) if given.is_json or given.html else {}
     text = document_text(document) if given.is_json else text_of(result)
@@ -175,7 +185,9 @@ def one_script(session: Session, given: argparse.Namespace) -> int:
     write_forms(given, [outcome])
     if given.html:
         write_page(document, given.html)
-    put(text + (annotation_lines([outcome]) if is_at_github() and not given.is_json else ""))
+    put(text if given.is_json else shown_lines(text) + annotated([outcome]))
+    if INTERRUPTIONS.count and given.is_json:
+        say(f"hunt: interrupted; it goes on by {result.goes_on or result.again}")
     return status
 
 
@@ -185,25 +197,35 @@ def folder(session: Session, given: argparse.Namespace) -> int:
     try:
         names = sorted(it for it in os.listdir(given.script) if it.endswith(".pct"))
     except OSError as error:
-        raise Refused(6, f"{given.script} can't be read: {error.strerror}") from None
+        raise Refused(READ_FAULT, f"{given.script} can't be read: {reason(error)}") from None
     if not names:
         raise Refused(USAGE, f"{given.script} has no script, no file NAME.pct")
     outcomes: list[Outcome] = []
     text = ""
     for name in names:
         outcome = session.outcome(os.path.join(given.script, name))
-        outcomes.append(outcome)
-        text += f"{'ok  ' if outcome.is_well else 'NOT '} {shown(outcome.path)}: {outcome.said}\n"
-        if not outcome.is_well and outcome.result:
-            text += "".join(f"     {line}".rstrip() + "\n" for line in text_of(outcome.result).splitlines())
-        if outcome.result and outcome.result.is_interrupted():
-            text += f"     interrupted; {len(names) - len(outcomes)} scripts were not looked at\n"
+        if outcome is None:  # interrupted before anything failed
             break
+        outcomes.append(outcome)
+        text += outcome_lines(outcome)
     bad = sum(not it.is_well for it in outcomes)
+    if len(outcomes) < len(names):
+        text += f"interrupted; {len(names) - len(outcomes)} scripts were not looked at; the same words begin again\n"
     text += f"{len(outcomes) - bad} came to what they should, {bad} didn't\n"
     write_forms(given, outcomes)
-    put(text + (annotation_lines(outcomes) if is_at_github() else ""))
-    return FOUND if bad else DONE if len(outcomes) == len(names) else INTERRUPTED
+    put(shown_lines(text) + annotated(outcomes))
+    return FOUND if bad else DONE if len(outcomes) == len(names) else INTERRUPTIONS.status or INTERRUPTED
+
+
+def outcome_lines(outcome: Outcome) -> str:
+    told = f"{'ok  ' if outcome.is_well else 'NOT '} {shown(outcome.path)}: {outcome.said}\n"
+    if not outcome.is_well and outcome.result:
+        told += "".join(f"     {line}".rstrip() + "\n" for line in text_of(outcome.result).splitlines())
+    return told
+
+
+def annotated(outcomes: list[Outcome]) -> str:
+    return annotation_lines(outcomes) if is_at_github() else ""
 
 
 def write_forms(given: argparse.Namespace, outcomes: list[Outcome]) -> None:
@@ -211,34 +233,26 @@ def write_forms(given: argparse.Namespace, outcomes: list[Outcome]) -> None:
         keep(given.junit, junit(outcomes))
 
 
-def is_at_github() -> bool:
-    return os.environ.get("GITHUB_ACTIONS") == "true"
-
-
-def interrupt(*_: object) -> None:
-    """A request to end, as an interruption: also where those are ignored, as in the background of a shell."""
-    raise KeyboardInterrupt
-
-
 def main() -> int:
-    """The status of a call by the words behind the program's name: 0 to 8 as the help has them, 130 where it was
-    interrupted."""
-    words = sys.argv[1:]
+    """The status of a call by the words behind the program's name, as the help has them."""
+    words = without_fifos(sys.argv[1:])
     sys.setrecursionlimit(10000)
     if words[:1] == ["--page"]:
-        return page_words(words[1:])
+        with INTERRUPTIONS.open():
+            return page_words(words[1:])
     if words[:1] == ["--why"]:
-        return why_words(Program.here(), words[1:])
+        check_names(words[2:4])
+        with INTERRUPTIONS.open():
+            return why_words(Program.here(), words[1:])
     if "--help" in words:
         put(parser().format_help())
         return DONE
     given = parser().parse_args(words)
     settings = settings_of(given, words)
-    signal.signal(signal.SIGTERM, interrupt)
     try:
         room = tempfile.mkdtemp(prefix="pct-hunt-")
     except OSError as error:
-        raise Refused(WRITE_FAULT, f"there is no room for a folder of its own: {error.strerror}") from None
+        raise Refused(WRITE_FAULT, f"there is no room for a folder of its own: {reason(error)}") from None
     session = None
     try:
         session = Session(settings, room)

@@ -14,6 +14,7 @@ sys.dont_write_bytecode = True
 if __name__ == "__main__":
     sys.path[0] = os.path.dirname(os.path.dirname(os.path.realpath(__file__)))
 
+from pcthunt.output import cut_line
 from pcthunt.explain import sentences_of, sentences_of_deal
 from pcthunt.states import KINDS, FIRST_VALUES, Json, Listed, ask_words, changed, listed, why
 from pctmodel.directive import Directive
@@ -86,7 +87,7 @@ class Texts:
     def at(self, file: str, line: int) -> str:
         lines = self.lines.get(file, [])
         text: str = lines[line - 1] if 0 < line <= len(lines) else ""
-        return code_of(text) if self.is_script.get(file) else text.strip()
+        return cut_line(code_of(text) if self.is_script.get(file) else text.strip())
 
 
 def complete_run(run: Json, deal: Json, texts: Texts) -> Listed:
@@ -252,9 +253,24 @@ def directive_of(directive: Directive, run: Json) -> Json:
     return {"low": directive.low, "moments": moments, "verdict": directive.verdict}
 
 
+def without_texts(document: Json) -> Json:
+    """The document as it is written, in which lines of sources stand in the sources alone."""
+    def run(told: Json) -> Json:
+        return told | {"steps": [{name: value for name, value in step.items() if name != "text"}
+                                 for step in told["steps"]]}
+
+    def heading(told: Json) -> Json:
+        passing = told.get("passing")
+        beside = {"passing": passing | {"run": run(passing["run"])}} if passing else {}
+        return told | {"run": run(told["run"])} | beside
+
+    return document | {"headings": [heading(it) for it in document["headings"]]}
+
+
 def put(document: Json) -> str:
     """The document's text: one line, by which each writer makes the same bytes."""
-    return json.dumps(document, ensure_ascii=False, separators=(",", ":"), sort_keys=True) + "\n"
+    return json.dumps(without_texts(document), ensure_ascii=False, separators=(",", ":"), sort_keys=True,
+                      allow_nan=False) + "\n"
 
 
 def main() -> int:

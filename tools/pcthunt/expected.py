@@ -5,11 +5,13 @@ from __future__ import annotations
 import os
 import re
 
-from pcthunt.output import USAGE, Refused, read
+from pcthunt.inputs import read
+from pcthunt.output import USAGE, Refused
 from pcthunt.report import Result
 from pctmodel.script import Script
 from pctmodel.trace import threads_of_verdict
 
+MOST_EXPECTED = 4096  # bytes, of which no verdict has so many
 LINE = re.compile(r"^[ \t]*#[ \t]*hunt:[ \t]*(.*?)[ \t\r]*$", re.M)
 
 
@@ -18,7 +20,7 @@ def expectation(path: str, text: str) -> tuple[str, str]:
     found = [(match.group(1), f"line {text.count(chr(10), 0, match.start()) + 1}") for match in LINE.finditer(text)]
     beside = os.path.splitext(path)[0] + ".expect"
     if os.path.exists(beside):
-        found.append((read(beside, 4096).decode(errors="replace").strip(), beside))
+        found.append((read(beside, MOST_EXPECTED).decode(errors="replace").strip(), beside))
     if len(found) > 1:
         raise Refused(USAGE, f"{path}: what it should come to is told twice: {found[0][1]} and {found[1][1]}")
     return found[0] if found else ("passes", "")
@@ -29,8 +31,8 @@ def check_expectation(path: str, wanted: str, where: str, script: Script) -> Non
     words = wanted.split()
     is_verdict = bool(words) and words[0] != "passed" and threads_of_verdict(words, 2, script) is not None
     if wanted not in ("passes", "fails") and not is_verdict:
-        raise Refused(USAGE, f"{path}: {where}: '{wanted}' is none of passes, fails, or a verdict of its threads such "
-                             f"as 'failed {next(iter(script.threads))} 9'")
+        raise Refused(USAGE, f"{path}: {where}: '{wanted[:120]}' is none of passes, fails, or a verdict of its threads "
+                             f"such as 'failed {next(iter(script.threads))} 9'")
 
 
 def is_as_expected(wanted: str, result: Result) -> bool:

@@ -5,6 +5,7 @@ from __future__ import annotations
 from dataclasses import dataclass, field
 
 from pcthunt.document import complete_run, deal_of, run_of, Texts
+from pcthunt.interruptions import INTERRUPTIONS
 from pcthunt.program import Program
 from pcthunt.rounds import Choice, Round
 from pcthunt.shorter import Source
@@ -176,7 +177,8 @@ class Headings:
         made: list[Failure] = []
         for failure in failures[:MOST_VERDICTS]:
             try:
-                made.append(self.make_run(failure))
+                with INTERRUPTIONS.open():
+                    made.append(self.make_run(failure))
             except KeyboardInterrupt:
                 self.is_interrupted = True
                 break

@@ -2,12 +2,14 @@
 
 from __future__ import annotations
 
-import shlex
+import os
 
 from pcthunt.certify import Certifier, Sought
 from pcthunt.document import complete_run, directive_of, first_part, locks_of, sentence_of
 from pcthunt.explain import sentences_of
 from pcthunt.headings import Failure, Heading, Headings, failures_of
+from pcthunt.interruptions import INTERRUPTIONS
+from pcthunt.output import typed
 from pcthunt.passing import passing_run
 from pcthunt.picture import drawn, lines_of
 from pcthunt.program import Program
@@ -39,6 +41,8 @@ class Hunt:
         progress = Progress(self.settings.is_quiet, self.settings.seconds)
         search = Search(self.settings, self.program, self.source, parts, progress)
         rounds = search.run()
+        if search.why_ended == "interrupted":
+            INTERRUPTIONS.answer()
         result = Result(self.title, rounds, [], failures_of(rounds, self.source), search.why_ended, None,
                         source=self.source)
         if search.why_ended:
@@ -53,7 +57,7 @@ class Hunt:
             progress.tell(f"failure {number} of {len(found)} is explained")
             result.cases.append(self.case(heading))
         progress.clear()
-        if self.is_interrupted:
+        if self.is_interrupted or INTERRUPTIONS.is_noted():
             result.again = self.settings.command(self.title)
         self.result = result
         return result
@@ -69,7 +73,8 @@ class Hunt:
         for explain in (self.tell_races, self.tell_needs, self.tell_passing, self.tell_certificate):
             try:
                 if not self.is_interrupted:
-                    explain(case)
+                    with INTERRUPTIONS.open():
+                        explain(case)
             except KeyboardInterrupt:
                 self.is_interrupted = True
         case.told = sentences_of(self.form(best).script, best.run, events, case.races)
@@ -113,7 +118,7 @@ class Hunt:
 
     def again(self, failure: Failure) -> list[tuple[str, str]]:
         """The commands that show a failure again."""
-        words = shlex.join(failure.schedule.words(self.source.name()))
+        words = typed(failure.schedule.words(self.source.name()))
         kind = failure.verdict.split()[0]
         return [*self.source.making(failure.schedule.form), ("its trace", f"{self.name} run {words}"),
                 ("its data races", f"{self.name} races {words}"),

@@ -6,6 +6,7 @@ import re
 import xml.etree.ElementTree as ElementTree
 from dataclasses import dataclass
 
+from pcthunt.output import shown_line, shown_lines
 from pcthunt.report import Result, text_of
 
 # What XML 1.0 has no character for, escaped or not.
@@ -26,7 +27,8 @@ class Outcome:
 
 
 def xml_text(text: str) -> str:
-    return FORBIDDEN.sub("", text)
+    """The text's lines as they are shown."""
+    return FORBIDDEN.sub("", shown_lines(text))
 
 
 def junit(outcomes: list[Outcome]) -> str:
@@ -36,11 +38,11 @@ def junit(outcomes: list[Outcome]) -> str:
     suite = ElementTree.Element("testsuite", name="pct-hunt", tests=str(len(outcomes)), errors=str(len(errors)),
                                 failures=str(len(bad) - len(errors)))
     for outcome in outcomes:
-        case = ElementTree.SubElement(suite, "testcase", classname="pct", name=xml_text(outcome.path),
+        case = ElementTree.SubElement(suite, "testcase", classname="pct", name=shown_line(outcome.path),
                                       time=f"{outcome.seconds:.3f}")
         if not outcome.is_well:
             kind = "error" if outcome.result is None else "failure"
-            told = ElementTree.SubElement(case, kind, message=xml_text(outcome.said))
+            told = ElementTree.SubElement(case, kind, message=shown_line(outcome.said))
             told.text = xml_text(text_of(outcome.result) if outcome.result else outcome.said)
     ElementTree.indent(suite)
     return '<?xml version="1.0" encoding="utf-8"?>\n' + ElementTree.tostring(suite, encoding="unicode") + "\n"
@@ -61,8 +63,8 @@ def annotation_lines(outcomes: list[Outcome]) -> str:
         told = [(outcome.line, outcome.said)]
         if outcome.result and outcome.result.cases:
             told = [(line_of(case.heading.best().verdict), case.sentence) for case in outcome.result.cases]
-        file = escaped(outcome.path, ":,")
-        lines += [f"::error file={file},line={line},title=pct-hunt::{escaped(said)}" for line, said in told]
+        file = escaped(shown_line(outcome.path), ":,")
+        lines += [f"::error file={file},line={line},title=pct-hunt::{escaped(shown_line(said))}" for line, said in told]
     return "".join(f"{line}\n" for line in lines)
 
 

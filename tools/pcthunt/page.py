@@ -7,6 +7,7 @@ writes the page, as `pct-hunt --page` does."""
 from __future__ import annotations
 
 import base64
+import gzip
 import hashlib
 import html
 import json
@@ -20,12 +21,14 @@ sys.dont_write_bytecode = True
 if __name__ == "__main__":
     sys.path[0] = os.path.dirname(os.path.dirname(os.path.realpath(__file__)))
 
-from pcthunt.document import complete
-from pcthunt.output import BAD_TRACE, DONE, READ_FAULT, USAGE, Refused, ends_well, keep, leave, put
+from pcthunt.document import complete, without_texts
+from pcthunt.inputs import check_output, read
+from pcthunt.output import BAD_TRACE, DONE, USAGE, Refused, ends_well, keep, leave, put
 
 Json = dict[str, Any]
 WEB = os.path.join(os.path.dirname(os.path.realpath(__file__)), "web")
 SCRIPTS = ["state.js", "words.js", "dom.js", "marks.js", "lanes.js", "story.js", "panels.js", "findings.js", "main.js"]
+MOST_UNPACKED = 2_000_000  # characters of a document that stands in the page as it is
 # What could end the element that has the JSON, or a line of it, and what UTF-8 has no form for.
 UNSAFE = re.compile("[<>&\u2028\u2029\ud800-\udfff]")
 
@@ -40,15 +43,18 @@ def part(name: str) -> str:
         return file.read()
 
 
-def embedded(document: Json) -> str:
-    """The document as JSON that may stand in an element of HTML."""
-    text = json.dumps(document, ensure_ascii=False, separators=(",", ":"))
-    return UNSAFE.sub(lambda found: f"\\u{ord(found[0]):04x}", text)
+def embedded(document: Json) -> tuple[str, str]:
+    """The type of an element of HTML that has the document, and what stands in it: JSON, or of a long run packed."""
+    text = json.dumps(without_texts(document), ensure_ascii=False, separators=(",", ":"), allow_nan=False)
+    if len(text) > MOST_UNPACKED:
+        packed = gzip.compress(text.encode(errors="replace"), 3, mtime=0)
+        return "application/gzip", base64.b64encode(packed).decode()
+    return "application/json", UNSAFE.sub(lambda found: f"\\u{ord(found[0]):04x}", text)
 
 
 def shown(text: str) -> str:
     """The text as HTML."""
-    return html.escape(text.encode(errors="replace").decode())
+    return html.escape(text.encode(errors="replace").decode()).replace("\n", "&#10;").replace("\r", "&#13;")
 
 
 def digest(text: str) -> str:
@@ -74,9 +80,10 @@ def page_of(document: Json) -> str:
     """The page of a whole document."""
     style = "\n" + part("page.css")
     code = '\n"use strict";\n' + "\n".join(part(name) for name in SCRIPTS)
+    kind, embedded_document = embedded(document)
     return Template(part("template.html")).substitute(
         policy=policy(style, code), title=shown(document["title"]), plain=plain(document), style=style,
-        document=embedded(document), code=code)
+        kind=kind, document=embedded_document, code=code)
 
 
 def write_page(document: Json, path: str) -> None:
@@ -103,10 +110,7 @@ def document_in(text: str) -> Json:
 
 def read_document(name: str) -> Json:
     try:
-        with open(name, encoding="utf-8") as file:
-            return document_in(file.read())
-    except OSError as error:
-        raise Refused(READ_FAULT, f"{name} can't be read: {error.strerror}") from None
+        return document_in(read(name).decode())
     except (NoDocument, UnicodeDecodeError) as error:
         raise Refused(BAD_TRACE, f"{name} is no document of a failing run: {error}") from None
 
@@ -117,6 +121,7 @@ def page_words(words: list[str]) -> int:
         case [name] if not name.startswith("--"):
             put(page_of(read_document(name)))
         case [name, "--html", path] if not name.startswith("--"):
+            check_output("--html", path, [name])
             write_page(read_document(name), path)
         case _:
             raise Refused(USAGE, "usage: pct-hunt --page DOCUMENT.json [--html FILE]")

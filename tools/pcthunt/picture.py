@@ -5,7 +5,7 @@ from __future__ import annotations
 from collections.abc import Iterator
 from dataclasses import dataclass
 
-from pcthunt.output import shown
+from pcthunt.output import cut_line, shown
 from pctmodel.run import Event, World, replay
 from pctmodel.script import Script
 from pctmodel.trace import Trace
@@ -108,7 +108,7 @@ def drawn(script: Script, trace: Trace, text: list[str], first: int, last: int) 
 
 def lines_of(data: bytes) -> list[str]:
     """The lines of a script, with what acts on a terminal shown by its code."""
-    return [shown(line.strip()) for line in data.decode().split("\n")]
+    return [cut_line(shown(line.strip())) for line in data.decode().split("\n")]
 
 
 def cell_of(step: Step) -> str:

@@ -2,16 +2,33 @@
 
 from __future__ import annotations
 
+import ctypes
 import os
-import shlex
 import shutil
+import signal
 import subprocess
 import threading
+from collections.abc import Callable
 from dataclasses import dataclass, field
 
-from pcthunt.output import USAGE, Refused
+from pcthunt.interruptions import INTERRUPTIONS
+from pcthunt.output import ERROR, NO_MEMORY, OUT_OF_ROOM, USAGE, Refused, reason, typed
 
 TOP = os.path.dirname(os.path.dirname(os.path.dirname(os.path.realpath(__file__))))
+
+
+PR_SET_PDEATHSIG = 1
+
+
+def dies_with_us(number: int = signal.SIGKILL) -> Callable[[], None]:
+    """What a child does before it begins: it has the system end it when the thread that made it ends."""
+    parent, prctl = os.getpid(), getattr(ctypes.CDLL(None), "prctl", None)
+
+    def asks() -> None:
+        if prctl is not None and prctl(PR_SET_PDEATHSIG, number) == 0 and os.getppid() != parent:
+            os._exit(1)  # the parent ended before that
+
+    return asks
 
 
 @dataclass(frozen=True)
@@ -19,6 +36,11 @@ class Answer:
     status: int
     out: str
     said: str
+
+
+def status_of(answer: Answer) -> int:
+    """The status of a tool whose call of the program didn't come to its end: the call's own, or that of an error."""
+    return answer.status if 0 < answer.status < 9 else ERROR
 
 
 def found() -> str:
@@ -53,38 +75,57 @@ class Program:
             return "pct"
         for near in (os.path.join("bin", "pct"), os.path.relpath(path)):
             if os.path.exists(near) and os.path.realpath(near) == path and not near.startswith(".."):
-                return shlex.join([*self.words[:-1], near])
-        return shlex.join([*self.words[:-1], path])
+                return typed([*self.words[:-1], near])
+        return typed([*self.words[:-1], path])
 
     def call(self, *words: str) -> Answer:
         """What the program answers to the words."""
+        with INTERRUPTIONS.closed():
+            call = self.begun(words)
+            if call is None:
+                return Answer(-1, "", "")
+            try:
+                out, said = self.told(call)
+            except BaseException:  # interrupted, the call ends with its caller
+                call.kill()
+                call.wait()
+                raise
+            finally:
+                with self.lock:
+                    self.running.discard(call)
+        return Answer(call.returncode, out, said.strip())
+
+    def begun(self, words: tuple[str, ...]) -> subprocess.Popen[str] | None:
+        """A call that goes on, or None where none is to begin any more."""
         try:
             with self.lock:
                 if self.is_stopped:
-                    return Answer(-1, "", "")
+                    return None
                 call = subprocess.Popen([*self.words, *words], stdin=subprocess.DEVNULL, stdout=subprocess.PIPE,
                                         stderr=subprocess.PIPE, text=True, errors="replace",
-                                        start_new_session=True)
+                                        start_new_session=True, preexec_fn=dies_with_us())
                 self.running.add(call)
         except OSError as error:
-            raise Refused(USAGE, f"{self.words[0]} can't be started: {error.strerror}") from None
-        try:
-            out, said = call.communicate()
-        except BaseException:  # interrupted, the call ends with its caller
-            call.kill()
-            call.wait()
-            raise
-        finally:
-            with self.lock:
-                self.running.discard(call)
-        return Answer(call.returncode, out, said.strip())
+            status = NO_MEMORY if error.errno in OUT_OF_ROOM else USAGE
+            raise Refused(status, f"{self.words[0]} can't be started: {reason(error)}") from None
+        return call
+
+    @staticmethod
+    def told(call: subprocess.Popen[str]) -> tuple[str, str]:
+        """What the call writes on both streams. In the main thread it is left where a signal came."""
+        is_main = threading.current_thread() is threading.main_thread()
+        while True:
+            try:
+                return call.communicate(timeout=0.1 if is_main else None)
+            except subprocess.TimeoutExpired:
+                INTERRUPTIONS.raise_noted()
 
     def whole(self, *words: str) -> Answer:
         """The answer, which has to be one of 0 or 1."""
         answer = self.call(*words)
         if answer.status not in (0, 1):
-            raise Refused(answer.status if 0 < answer.status < 9 else USAGE,
-                          f"'{shlex.join(['pct', *words])}' ended with {answer.status}: {answer.said or 'no word'}")
+            raise Refused(status_of(answer), f"'{typed(['pct', *words])}' ended with {answer.status}: "
+                                             f"{answer.said or 'no word'}")
         return answer
 
     def stop(self) -> None:

@@ -2,12 +2,11 @@
 
 from __future__ import annotations
 
-import shlex
 from dataclasses import dataclass, field
 
 from pcthunt.certify import Sought
 from pcthunt.headings import Failure, Heading
-from pcthunt.output import shown
+from pcthunt.output import shown, typed
 from pcthunt.picture import MOST_COLUMNS, Picture, text_lines
 from pcthunt.rounds import Round
 from pcthunt.shorter import Source
@@ -232,7 +231,7 @@ def text_of(result: Result) -> str:
     rest = [failure for failure in result.failures if not failure.run]
     if rest:
         runs = sum(it.count() for it in rest)
-        made_by = shlex.join(["run", *rest[0].schedule.words(result.source.name() if result.source else result.title)])
+        made_by = typed(["run", *rest[0].schedule.words(result.source.name() if result.source else result.title)])
         many_more = "1 more verdict" if len(rest) == 1 else f"{len(rest)} more verdicts"
         lines += ["", f"Of {many_more}, in {runs:,} runs, no run was made here. '{rest[0].verdict}' is the first, "
                       "which "

@@ -4,11 +4,18 @@ whole, byte for byte the one that `pct campaign` writes of all the seeds."""
 from __future__ import annotations
 
 import json
+import re
 from collections.abc import Iterable, Iterator, Sequence
 from typing import NamedTuple
 
 HEAD = ("threads", "steps", "depth", "limit")
 SEEDS = 2**64
+VERDICT = re.compile(r"[a-z]+( [A-Za-z0-9_]+)*")
+
+
+def is_number(word: str) -> bool:
+    """Whether it is a decimal of at most 64 bits, by its length."""
+    return word.isascii() and word.isdecimal() and len(word) <= 20
 
 
 class Row(NamedTuple):
@@ -56,14 +63,14 @@ def groups_of(rows: Iterable[Row]) -> list[Group]:
 def numbered(name: str, line: str, count: int) -> tuple[list[int], str]:
     """So many numbers at the start of a line, and the verdict behind them."""
     words = line.split(" ", count)
-    if len(words) <= count or not all(word.isascii() and word.isdecimal() for word in words[:count]):
+    if len(words) <= count or not all(map(is_number, words[:count])) or not VERDICT.fullmatch(words[count]):
         raise NoReport(f"{name}: this is no line of a report: {line[:80]!a}")
     return [int(word) for word in words[:count]], words[count]
 
 
 def value_of(name: str, line: str | None, word: str) -> int:
     value = line[len(word) + 1:] if line is not None and line.startswith(f"{word} ") else ""
-    if not value.isascii() or not value.isdecimal():
+    if not is_number(value):
         raise NoReport(f"{name}: a report has no line '{word}' in its place")
     return int(value)
 
@@ -78,7 +85,7 @@ def text_report(name: str, lines: Iterator[str]) -> Report:
         if seed == "groups":
             many = value_of(name, line, "groups")
             break
-        if end not in ends or not seed.isdecimal() or not seed.isascii():
+        if end not in ends or not is_number(seed):
             (_, steps), verdict = numbered(name, line, 2)
             ends[end] = steps, verdict
         rows.append(Row(int(seed), *ends[end]))
@@ -92,6 +99,10 @@ def group_of(name: str, line: str) -> Group:
     return Group(count, steps, first, verdict)
 
 
+def is_verdict(value: object) -> bool:
+    return isinstance(value, str) and VERDICT.fullmatch(value) is not None
+
+
 def json_report(name: str, line: str) -> Report:
     try:
         value = json.loads(line)
@@ -100,7 +111,9 @@ def json_report(name: str, line: str) -> Report:
         rows = [Row(*row) for row in value["rows"]]
     except (ValueError, KeyError, TypeError, RecursionError):
         raise NoReport(f"{name}: this line is no report: {line[:60]!a}") from None
-    if not all(type(number) is int for number in (*head, *(it for row in rows for it in row[:2]))):
+    numbers = (*head, *(it for row in rows for it in row[:2]), *(it for group in groups for it in group[:3]))
+    verdicts = (*(row.verdict for row in rows), *(group.verdict for group in groups))
+    if not all(type(it) is int and 0 <= it < SEEDS for it in numbers) or not all(map(is_verdict, verdicts)):
         raise NoReport(f"{name}: this line is no report: {line[:60]!a}")
     return Report(head, rows, groups, name)
 
@@ -108,7 +121,7 @@ def json_report(name: str, line: str) -> Report:
 def reports_of(name: str, text: str) -> Iterator[Report]:
     """The reports in a text, each as text or as JSON. Raises NoReport, with a sentence, at the first line that is
     none."""
-    lines = iter(text.splitlines())
+    lines = iter(text.removesuffix("\n").split("\n") if text else ())
     for line in lines:
         yield text_report(name, lines) if line == "campaign 1" else json_report(name, line)
 

@@ -11,8 +11,9 @@ from concurrent.futures import FIRST_COMPLETED, Future, ThreadPoolExecutor, wait
 from dataclasses import dataclass, field
 from typing import NamedTuple
 
-from pcthunt.output import Refused, USAGE
-from pcthunt.program import Program
+from pcthunt.interruptions import INTERRUPTIONS
+from pcthunt.output import ERROR, Refused
+from pcthunt.program import Program, status_of
 from pcthunt.progress import Progress
 from pcthunt.reports import SEEDS, NoReport, Report, Row, merged, reports_of
 from pcthunt.settings import AT_DEPTH_1, Settings, processors
@@ -105,12 +106,12 @@ class Parts:
         if self.program.is_stopped:
             return None
         if answer.status not in (0, 1):
-            status = answer.status if 0 < answer.status < 9 else USAGE
-            raise Refused(status, answer.said or f"pct ended with {answer.status} at the seeds from {first} on")
+            raise Refused(status_of(answer), answer.said or f"pct ended with {answer.status} at the seeds from {first} "
+                                                            "on")
         try:
             report = merged(list(reports_of("pct", answer.out)))
         except NoReport as why:
-            raise Refused(USAGE, f"what pct wrote is no report: {why}") from None
+            raise Refused(ERROR, f"what pct wrote is no report: {why}") from None
         return report, time.monotonic() - begun
 
     def reports(self, round_: Round) -> Iterator[Report | None]:
@@ -167,6 +168,8 @@ class Search:
         for number, form in enumerate(self.source.forms):
             self.parts.script = form.path
             self.run_form(number)
+            if INTERRUPTIONS.is_noted() and number + 1 < len(self.source.forms):
+                self.why_ended = "interrupted"
             if self.is_enough():
                 break
         return self.rounds
@@ -186,14 +189,13 @@ class Search:
             self.rounds.append(round_)
             own.append(round_)
             choices = math.factorial(self.threads) * max(round_.steps, 1) ** (depth - 1)
-            try:
-                if has_sweep and choices <= min(wanted, MOST_SWEPT):
-                    self.sweep(round_)
-                else:
-                    self.campaign(round_)
-            except KeyboardInterrupt:
-                self.why_ended = "interrupted"
+            if has_sweep and choices <= min(wanted, MOST_SWEPT):
+                self.sweep(round_)
+            else:
+                self.campaign(round_)
             self.progress.clear()
+            if INTERRUPTIONS.is_noted() and depth < self.settings.depth:
+                self.why_ended = "interrupted"
             if self.is_enough():
                 break
 
@@ -208,14 +210,17 @@ class Search:
                     done += len(report.rows)
                     failures += sum(group.count for group in report.groups)
                 self.progress.show(round_.number, round_.depth, done, round_.wanted, failures)
-                if done < round_.wanted and self.is_out_of_time():
+                if done < round_.wanted and self.is_to_end():
                     break
         finally:
             self.take(round_, reports)
 
-    def is_out_of_time(self) -> bool:
+    def is_to_end(self) -> bool:
+        """Whether a signal came, or the time is over."""
         left = self.progress.seconds_left()
-        if left is not None and left <= 0:
+        if INTERRUPTIONS.is_noted():
+            self.why_ended = "interrupted"
+        elif left is not None and left <= 0:
             self.why_ended = f"{self.settings.seconds:g} seconds were over"
         return self.why_ended is not None
 
@@ -240,7 +245,7 @@ class Search:
         try:
             while not wait([swept], timeout=0.1).done:
                 self.progress.tell(f"round {round_.number}, depth {round_.depth}: all choices are run")
-                if self.is_out_of_time():
+                if self.is_to_end():
                     return
         finally:
             if not swept.done():
@@ -251,7 +256,10 @@ class Search:
         round_.steps, round_.wanted = head["steps"], head["choices"]
         # A sweep doesn't tell how long its runs are: some seeds of the same depth do.
         probe = Round(round_.number, round_.depth, round_.first, AT_DEPTH_1, round_.limit, round_.steps)
-        made = self.parts.make(probe, probe.first, probe.wanted)
+        try:
+            made = self.parts.make(probe, probe.first, probe.wanted)
+        except KeyboardInterrupt:
+            made = None
         round_.longest = longest_of(made[0].rows) if made else 0
 
 
@@ -272,5 +280,5 @@ def read_sweep(text: str) -> tuple[dict[str, int], list[Choice]]:
             choices.append(Choice(int(words[0]), int(words[1]), words[order + 1:points],
                                   [int(it) for it in words[points + 1:verdict]], " ".join(words[verdict + 1:])))
     if "choices" not in head or "steps" not in head:
-        raise Refused(USAGE, f"what pct wrote is no sweep: {text[:80]!a}")
+        raise Refused(ERROR, f"what pct wrote is no sweep: {text[:80]!a}")
     return head, choices

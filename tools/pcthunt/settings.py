@@ -3,8 +3,9 @@
 from __future__ import annotations
 
 import os
-import shlex
 from dataclasses import dataclass, field
+
+from pcthunt.output import typed
 
 AT_DEPTH_1 = 200  # seeds of round 0
 
@@ -34,7 +35,7 @@ class Settings:
                 at = words.index(name)
                 del words[at:at + 2]
             words += [name, str(value)]
-        return shlex.join(["pct-hunt", script, *words])
+        return typed(["pct-hunt", script, *words])
 
 
 def processors() -> list[int]:

@@ -2,8 +2,7 @@
 
 from __future__ import annotations
 
-import shlex
-
+from pcthunt.output import typed
 from pcthunt.document import complete, first_part, run_of
 from pcthunt.passing import passing_run
 from pcthunt.picture import Departs
@@ -27,7 +26,7 @@ def document_of_trace(names: tuple[str, str], text: str, script: Script, trace: 
     document = first_part(title, text, [run_of(script, trace, title)], script)
     document["writer"] = "lanes"
     heading = document["headings"][0]
-    heading["again"] = [{"says": "the trace is confirmed by", "command": shlex.join(["pct", "replay", *names])}]
+    heading["again"] = [{"says": "the trace is confirmed by", "command": typed(["pct", "replay", *names])}]
     if trace.verdict not in ("passed", "cut") and is_of_its_head(script, trace):
         passing = passing_run(script, trace, title)
         if passing:

@@ -6,7 +6,8 @@ import os
 import shlex
 
 from pcthunt.forms import nearest
-from pcthunt.output import BAD_DIRECTIVE, BAD_SCRIPT, BAD_TRACE, READ_FAULT, USAGE, Refused, put, read, shown
+from pcthunt.inputs import read
+from pcthunt.output import BAD_DIRECTIVE, BAD_SCRIPT, BAD_TRACE, READ_FAULT, USAGE, Refused, put, shown
 from pcthunt.program import Program
 from pcthunt.refusals import script_refusal
 from pctmodel.directive import read_directive

@@ -117,7 +117,7 @@ function racesOf({run, names, choose}, {races}) {
     const step = run.step(number);
     return [
       toStep(number, choose), ` (${names.of(step.thread)}, line ${step.line}: `,
-      make("code", {}, step.text || step.ask), ")"
+      make("code", {}, run.texts.at(step) || step.ask), ")"
     ];
   };
   const draw = ({var : name, first, second}) => [`${names.of(name)}: `, ...side(first), " and ", ...side(second)];

@@ -15,7 +15,8 @@ class Page {
     this.story = new Story(at("story"), (number) => this.select(number, false));
     this.source = new Source(at("source"));
     this.details = new Details(at("state-head"), at("details"));
-    this.source.open(found.sources, found.title);
+    this.texts = new Texts(found.sources);
+    this.source.open(this.texts, found.title);
     at("script-head").textContent = SCRIPTED.includes(found.writer) ? "Script" : "Source";
     this.opened = new Map();
     this.group = -1;
@@ -77,7 +78,7 @@ class Page {
     const heading = this.found.headings[group];
     if (!this.opened.has(group)) {
       const run = new Run(heading.run);
-      run.threads = this.threads;
+      Object.assign(run, {threads: this.threads, texts: this.texts});
       this.opened.set(group, {run, marks: new Marks(heading, run, this.names)});
     }
     Object.assign(this, this.opened.get(group));
@@ -161,4 +162,19 @@ class Page {
   }
 }
 
-new Page(JSON.parse(at("document").textContent)).start();
+/** The document of a long run is packed: by gzip, in base64. */
+async function startPacked(element) {
+  try {
+    const bytes = Uint8Array.from(atob(element.textContent), (it) => it.charCodeAt(0));
+    const whole = new Blob([bytes]).stream().pipeThrough(new DecompressionStream("gzip"));
+    new Page(JSON.parse(await new Response(whole).text())).start();
+  } catch (error) {
+    at("sentence").textContent = `This page can't be unpacked: ${error}`;
+    throw error;
+  }
+}
+
+if (at("document").type === "application/json")
+  new Page(JSON.parse(at("document").textContent)).start();
+else
+  startPacked(at("document"));

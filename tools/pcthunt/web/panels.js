@@ -1,29 +1,80 @@
 // The script with the line of the selected step, and the state at that step.
 
+const MOST_WHOLE = 2000;  // a source of at most so many lines is there as a whole
+const NEAR_LINES = 60;    // of a longer one so many lines before and after a place
+const MORE_LINES = 400;   // and so many more where they are asked for
+const MOST_ROWS = 6000;   // where so many lines of a source are there, those that aren't near go
+
+/** A source, of which the lines near the steps that were shown are there, and buttons for the others. */
+class SourceFile {
+  constructor(file, lines) {
+    this.lines = lines;
+    this.list = make("ol", {class: "source", "aria-label": file});
+    this.clear();
+  }
+
+  clear() {
+    this.rows = new Map();
+    const whole = this.gap(1, this.lines.length);
+    this.gaps = [whole];
+    this.list.replaceChildren(whole.item);
+    this.fill(whole, 1, this.lines.length <= MOST_WHOLE ? this.lines.length : NEAR_LINES);
+  }
+
+  gap(first, last) {
+    const gap = {first, last};
+    const open = () => this.fill(gap, gap.first, Math.min(gap.last, gap.first + MORE_LINES - 1));
+    gap.item = make(
+        "li", {class: "gap"},
+        make("button", {type: "button", onclick: open}, `${counted(last - first + 1, "more line")}`));
+    return gap;
+  }
+
+  /** Puts the lines from the first to the last one in the place of a gap that has them, and of others two gaps. */
+  fill(gap, first, last) {
+    const rests = [[gap.first, first - 1], [last + 1, gap.last]].map(
+        ([low, high]) => (low <= high ? this.gap(low, high) : null));
+    const items = document.createDocumentFragment();
+    for (let line = first; line <= last; line += 1) items.appendChild(this.row(line));
+    if (rests[0]) items.prepend(rests[0].item);
+    if (rests[1]) items.append(rests[1].item);
+    gap.item.replaceWith(items);
+    this.gaps = [...this.gaps.filter((it) => it !== gap), ...rests.filter(Boolean)];
+  }
+
+  row(line) {
+    const row = make(
+        "li", {"data-line": line}, make("span", {class: "number", "aria-hidden": "true"}, String(line)),
+        make("code", {}, cutLine(this.lines[line - 1])), make("span", {class: "here"}));
+    this.rows.set(line, row);
+    return row;
+  }
+
+  /** The row of a line, with those near it; none where the source has no such line. */
+  at(line) {
+    const gap = this.gaps.find((it) => it.first <= line && line <= it.last);
+    if (gap) this.fill(gap, Math.max(gap.first, line - NEAR_LINES), Math.min(gap.last, line + NEAR_LINES));
+    return this.rows.get(line);
+  }
+}
+
 class Source {
   constructor(box) {
     this.box = box;
-    this.lines = new Map();
+    this.files = new Map();
     this.marked = [];
   }
 
-  open(sources, title) {
-    this.lines.clear();
+  open(texts, title) {
     this.marked = [];
-    this.box.replaceChildren(...sources.flatMap((source) => this.file(source, sources.length > 1 || source.file !== title)));
+    this.files = new Map(texts.files().map((file) => [file, new SourceFile(file, texts.linesOf(file))]));
+    const isNamed = (file) => this.files.size > 1 || file !== title;
+    this.box.replaceChildren(...[...this.files].flatMap(
+        ([file, source]) => (isNamed(file) ? [make("h4", {}, file), source.list] : [source.list])));
   }
 
-  file({file, text}, isNamed) {
-    const lines = text.replace(/\n$/, "").split("\n").map((line, index) => {
-      const row = make(
-          "li", {"data-line": index + 1}, make("span", {class: "number", "aria-hidden": "true"}, String(index + 1)),
-          make("code", {}, line), make("span", {class: "here"}));
-      this.lines.set(`${index + 1} ${file}`, row);
-      return row;
-    });
-    return [
-      isNamed ? make("h4", {}, file) : null, make("ol", {class: "source", "aria-label": file}, ...lines)
-    ].filter(Boolean);
+  rowOf({file, line}) {
+    return this.files.get(file)?.at(line);
   }
 
   /** Lights the step's line, and says at which lines the threads go on after it. */
@@ -33,16 +84,19 @@ class Source {
       row.lastChild.replaceChildren();
     }
     this.marked = [];
+    for (const source of this.files.values()) {
+      if (source.rows.size > Math.max(MOST_ROWS, MOST_WHOLE)) source.clear();
+    }
     for (const name of threads) {
       const told = after.thread(name);
-      const row = this.lines.get(`${told.line} ${told.file}`);
+      const row = this.rowOf(told);
       if (!row) continue;
       const does = told.is === "blocked" ? "waits here" : told.is === "held" ? "isn't started" : "is here next";
       row.lastChild.append(
           make("span", {class: `badge ${told.is}`}, names.of(name), make("span", {class: "unseen"}, ` ${does} `)));
       this.marked.push(row);
     }
-    const row = step && this.lines.get(`${step.line} ${step.file}`);
+    const row = step && this.rowOf(step);
     if (!row) return;
     row.setAttribute("aria-current", "step");
     this.marked.push(row);

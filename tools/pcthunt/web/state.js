@@ -39,6 +39,33 @@ class State {
   }
 }
 
+const LONGEST_LINE = 4096;  // characters of a line that is shown
+
+const cutLine = (line) => (line.length > LONGEST_LINE ? `${line.slice(0, LONGEST_LINE - 2)}..` : line);
+
+/** The lines of the sources, and what a step's line says: of a script without its comment. */
+class Texts {
+  constructor(sources) {
+    this.texts = new Map(sources.map(({file, text}) => [file, text]));
+    this.lines = new Map();
+  }
+
+  files() {
+    return [...this.texts.keys()];
+  }
+
+  linesOf(file) {
+    if (!this.lines.has(file)) this.lines.set(file, (this.texts.get(file) ?? "").replace(/\n$/, "").split("\n"));
+    return this.lines.get(file);
+  }
+
+  at({file, line}) {
+    const text = this.linesOf(file)[line - 1] ?? "";
+    const isScript = /^\s*(script|#)/.test(this.texts.get(file) ?? "");
+    return cutLine((isScript ? text.split("#")[0] : text).trim());
+  }
+}
+
 /** A run with its states. Steps count from 1; the state after no step is that before the first. */
 class Run {
   constructor(run) {

@@ -185,7 +185,7 @@ class Story {
   item(number, isFirst) {
     const step = this.run.step(number);
     const says = phraseOf(step, this.run.after(number - 1), this.names);
-    const text = step.text || step.ask;
+    const text = this.run.texts.at(step) || step.ask;
     return make(
         "li", {},
         make(
