@@ -21,12 +21,13 @@ def functions_of(lines: list[str]) -> Iterator[tuple[int, int]]:
             yield first + 1, last - first + 1
 
 
-def faults_of(crate: pathlib.Path) -> Iterator[str]:
+def faults_of(crate: pathlib.Path, unsafe: str = "ffi.rs") -> Iterator[str]:
+    """Unsafe code stands in the file of that name alone."""
     for path in sorted((crate / "src").rglob("*.rs")):
         lines, name = path.read_text(encoding="utf-8").splitlines(), path.relative_to(crate)
         if len(lines) > MOST_LINES:
             yield f"{name} has {len(lines)} lines"
         long = [(first, many) for first, many in functions_of(lines) if many > MOST_OF_FUNCTION]
         yield from (f"{name}:{first}: a function of {many} lines" for first, many in long)
-        numbered = enumerate(lines, 1) if path.name != "ffi.rs" else ()
+        numbered = enumerate(lines, 1) if path.name != unsafe else ()
         yield from (f"{name}:{at}: unsafe" for at, line in numbered if UNSAFE.search(line.split("//")[0]))

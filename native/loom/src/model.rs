@@ -34,6 +34,9 @@ pub struct Builder {
     pub expect_explicit_explore: bool,
 }
 
+/// A thread that spins without a hint rests after so many steps in a row.
+const REST_AFTER: u32 = 200;
+
 /// A number of the environment.
 fn number(name: &str) -> Option<usize> {
     let text = std::env::var(name).ok()?;
@@ -90,6 +93,7 @@ impl Builder {
             runs: self.max_permutations.map(|runs| runs as u64),
             panics: Panics::AsStd,
             races: true,
+            rest_after: Some(REST_AFTER),
             ..Config::default()
         }
     }

@@ -55,6 +55,11 @@ pub struct Config {
     /// Whether two accesses of a [`cell::UnsafeCell`](crate::cell::UnsafeCell) that overlap, or that
     /// nothing orders, fail the run: false. The orderings that atomics and fences are given count.
     pub races: bool,
+    /// After how many steps in a row a thread rests while another one can go: it waits until another
+    /// one has changed something, may have to wait, or has ended. So a loop passes that waits without
+    /// saying so. Each time it takes half as many steps in a row as before, at least 16. Without it no
+    /// thread rests.
+    pub rest_after: Option<u32>,
     /// The greatest depth that `check` takes where it has no depth, 1 to 8: 3.
     pub deepest: u32,
     /// How many runs `check` makes at most, that in declared order among them.
@@ -81,6 +86,7 @@ impl Default for Config {
             stack: None,
             pin: true,
             races: false,
+            rest_after: None,
             deepest: 3,
             runs: None,
             sum: false,

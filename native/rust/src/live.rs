@@ -131,6 +131,18 @@ impl Live {
     }
 
     fn step(&self, me: u32, place: Place, late: Late) -> Answer {
+        let is_tired = {
+            let mut state = self.held();
+            !state.spins.is_own(me) && state.spins.is_tired(me) && state.lets_another(me)
+        };
+        if is_tired {
+            self.rest(me, place);
+        }
+        let mut state = self.held();
+        if !state.spins.is_own(me) && !state.lets(&late) {
+            state.spins.wake_resting(me);
+        }
+        drop(state);
         if let Err(fault) = self.wake_waiters(me) {
             self.fail(fault);
         }
@@ -227,6 +239,7 @@ impl Live {
         let mut state = self.state()?;
         state.threads.finish(me);
         state.spins.changes(me);
+        state.spins.wake_resting(me);
         Ok(())
     }
 
@@ -311,20 +324,42 @@ impl Live {
         self.held().spins.changes(me);
     }
 
+    /// The semaphore at which a thread waits for changes.
+    fn new_semaphore(&self, me: u32, place: Place) -> u32 {
+        let number = self.new_number(Kind::Semaphore, 0, place);
+        let semaphore = number.unwrap_or_else(|| self.fail("a thread without a semaphore".into()));
+        self.held().spins.give(me, semaphore);
+        semaphore
+    }
+
+    /// Waits until another thread has changed something, may be about to wait, or has ended.
+    fn rest(&self, me: u32, place: Place) {
+        let known = self.held().spins.semaphore(me);
+        let semaphore = known.unwrap_or_else(|| self.new_semaphore(me, place));
+        let mut state = self.held();
+        state.spins.wake_resting(me);
+        drop(state);
+        if let Err(fault) = self.wake_waiters(me) {
+            self.fail(fault);
+        }
+        self.held().spins.rest(me);
+        let down = Late::Ask(Ask::of(kind::DOWN, semaphore));
+        self.settled(self.bring(me, place, Some(down)), me);
+        self.held().spins.goes_on(me);
+    }
+
     /// Waits for a change, where nothing has changed since the thread looked last.
     pub fn look(&self, me: u32, place: Place) {
         let look = self.held().spins.look(me);
         let late = match look {
-            Look::Again => Ask::yields(),
+            Look::Rest if self.held().lets_another(me) => return self.rest(me, place),
+            Look::Again | Look::Rest => Ask::yields(),
             Look::Wait(Some(semaphore)) => Ask::of(kind::DOWN, semaphore),
-            Look::Wait(None) => {
-                let number = self.new_number(Kind::Semaphore, 0, place);
-                let semaphore =
-                    number.unwrap_or_else(|| self.fail("a thread without a semaphore".into()));
-                self.held().spins.give(me, semaphore);
-                Ask::of(kind::DOWN, semaphore)
-            }
+            Look::Wait(None) => Ask::of(kind::DOWN, self.new_semaphore(me, place)),
         };
+        if late.kind == kind::DOWN {
+            self.held().spins.wake_resting(me);
+        }
         // Those whom it has to wake first are woken while it doesn't wait itself.
         if let Err(fault) = self.wake_waiters(me) {
             self.fail(fault);

@@ -199,6 +199,18 @@ impl Objects {
         self.freed[kind as usize] |= 1 << number;
     }
 
+    /// Whether a step that is asked can be taken now for sure, but for one that waits for a thread.
+    pub fn lets(&self, ask: &Ask) -> bool {
+        let index = ask.a as usize;
+        match ask.kind {
+            kind::LOCK => self.held >> ask.a & 1 == 0,
+            kind::DOWN => self.counts[index] > 0,
+            kind::RD_LOCK | kind::WR_LOCK => self.read_holds[index] == 0,
+            kind::REGAIN | kind::LEAVE | kind::JOIN | kind::NONE => false,
+            _ => true,
+        }
+    }
+
     /// Keeps up with a step.
     pub fn took(&mut self, ask: &Ask, answer: i64) {
         let index = ask.a as usize;

@@ -112,6 +112,7 @@ impl<T: Test> Runner<T> {
         let places = Places::new(self.settings.place.file);
         let mut state = State::new(order.plan.clone(), self.deal.clone(), limit, places);
         state.keeps_steps = order.keeps_steps;
+        state.spins.rest_after(self.settings.config.rest_after);
         state.checked = self.settings.config.races.then(Default::default);
         (state.seed, state.random) = (order.random, order.random);
         state.follow = self.follow.clone();

@@ -19,7 +19,20 @@ pub(crate) struct Spins {
     owed: [u64; MOST],
     /// Whose steps are this module's own: they change nothing that anybody looks at.
     own: u64,
+    /// Who waits only as long as another thread goes on.
+    resting: u64,
+    /// Who took the last step, and how many it has taken in a row.
+    row: (u32, u32),
+    /// How many steps in a row each thread takes until it rests, where it rests at all.
+    until_rest: Option<[u32; MOST]>,
+    /// How many changes each thread has made, and how many the others had made when it wanted to wait
+    /// last.
+    made: [u64; MOST],
+    seen_of_others: [Option<u64>; MOST],
 }
+
+/// A thread that rests again and again takes at least so many steps in a row.
+const LEAST_ROW: u32 = 16;
 
 impl Default for Spins {
     fn default() -> Self {
@@ -32,6 +45,11 @@ impl Default for Spins {
             changed: 0,
             owed: [0; MOST],
             own: 0,
+            resting: 0,
+            row: (0, 0),
+            until_rest: None,
+            made: [0; MOST],
+            seen_of_others: [None; MOST],
         }
     }
 }
@@ -43,6 +61,9 @@ pub(crate) enum Look {
     Again,
     /// It waits at its semaphore, once it has one.
     Wait(Option<u32>),
+    /// Only its own steps have changed something since then: it waits so as long as another thread
+    /// goes on.
+    Rest,
 }
 
 impl Spins {
@@ -52,6 +73,7 @@ impl Spins {
             return;
         }
         self.looked |= 1 << thread;
+        self.row = if self.row.0 == thread { (thread, self.row.1 + 1) } else { (thread, 1) };
         if ask.changes(answer) {
             self.changes(thread);
         }
@@ -65,6 +87,7 @@ impl Spins {
     /// The thread has changed something.
     pub fn changes(&mut self, thread: u32) {
         self.many += 1;
+        self.made[thread as usize] += 1;
         self.changed |= 1 << thread;
     }
 
@@ -73,10 +96,51 @@ impl Spins {
         let has_looked = self.looked >> thread & 1 == 1;
         self.looked &= !(1 << thread);
         let seen = self.seen[thread as usize].replace(self.many);
-        if !has_looked || seen != Some(self.many) {
-            return Look::Again;
+        let others = self.many - self.made[thread as usize];
+        let seen_of_others = self.seen_of_others[thread as usize].replace(others);
+        match (has_looked, seen == Some(self.many)) {
+            (true, true) => Look::Wait(self.semaphores[thread as usize]),
+            (true, false) if self.until_rest.is_some() && seen_of_others == Some(others) => {
+                Look::Rest
+            }
+            _ => Look::Again,
         }
-        Look::Wait(self.semaphores[thread as usize])
+    }
+
+    /// Threads rest after so many steps in a row.
+    pub fn rest_after(&mut self, steps: Option<u32>) {
+        self.until_rest = steps.map(|steps| [steps; MOST]);
+    }
+
+    /// Whether the thread has taken so many steps in a row that it is to rest. The next time it takes
+    /// half as many.
+    pub fn is_tired(&mut self, thread: u32) -> bool {
+        let Some(until) = self.until_rest.as_mut().map(|all| &mut all[thread as usize]) else {
+            return false;
+        };
+        if self.row.0 != thread || self.row.1 < *until {
+            return false;
+        }
+        *until = (*until / 2).max(LEAST_ROW);
+        self.row.1 = 0;
+        true
+    }
+
+    pub fn semaphore(&self, thread: u32) -> Option<u32> {
+        self.semaphores[thread as usize]
+    }
+
+    /// The thread waits as long as another one goes on.
+    pub fn rest(&mut self, thread: u32) {
+        self.begin(thread, true);
+        self.resting |= 1 << thread;
+    }
+
+    /// The thread may be about to wait, or ends: those who rest go on.
+    pub fn wake_resting(&mut self, thread: u32) {
+        let resting = std::mem::take(&mut self.resting) & self.waiting;
+        self.owed[thread as usize] |= resting;
+        self.waiting &= !resting;
     }
 
     pub fn give(&mut self, thread: u32, semaphore: u32) {
@@ -93,6 +157,7 @@ impl Spins {
     pub fn goes_on(&mut self, thread: u32) {
         self.own &= !(1 << thread);
         self.waiting &= !(1 << thread);
+        self.resting &= !(1 << thread);
     }
 
     /// The next one whom the thread has to wake before its next ask, by its semaphore. Who begins

@@ -179,6 +179,24 @@ impl State {
         }
     }
 
+    /// Whether a step can be taken for sure.
+    pub fn lets(&self, late: &Late) -> bool {
+        match late {
+            Late::Change { .. } => true,
+            Late::Ask(ask) if ask.kind == kind::JOIN => self.threads.has_ended(ask.a),
+            Late::Ask(ask) => self.objects.lets(ask),
+        }
+    }
+
+    /// Whether another thread can go for sure.
+    pub fn lets_another(&self, me: u32) -> bool {
+        self.threads.numbers().filter(|number| *number != me).any(|number| {
+            let posted = self.posted[number as usize].map(|(_, ask)| Late::Ask(ask));
+            let brought = self.late[number as usize].map(|(_, late)| late);
+            brought.or(posted).is_some_and(|late| self.lets(&late))
+        })
+    }
+
     fn took(&mut self, thread: u32, line: u32, ask: &Ask, answer: i64) {
         self.posted[thread as usize] = None;
         self.steps += 1;
