@@ -56,14 +56,15 @@ QUEUE = [
 INTERNAL = "src/internal.rs"
 EPOCH = [
     Bug("the epoch goes on though a thread is pinned in an earlier one", INTERNAL,
-        "if local_epoch.is_pinned() && local_epoch.unpinned() != global_epoch {", "if false {"),
+        "if local_epoch.is_pinned() && local_epoch.unpinned() != global_epoch {", "if false {", is_found=False),
     Bug("a bag is dropped an epoch too early", INTERNAL, "global_epoch.wrapping_sub(self.epoch) >= 2",
-        "global_epoch.wrapping_sub(self.epoch) >= 1"),
-    Bug("a bag is dropped at once", INTERNAL, "global_epoch.wrapping_sub(self.epoch) >= 2", "true"),
+        "global_epoch.wrapping_sub(self.epoch) >= 1", is_found=False),
+    Bug("a bag is dropped at once", INTERNAL, "global_epoch.wrapping_sub(self.epoch) >= 2", "true",
+        is_found=False),
     Bug("a pinned thread tells no epoch", INTERNAL, "let new_epoch = global_epoch.pinned();",
-        "let new_epoch = Epoch::starting();"),
+        "let new_epoch = Epoch::starting();", is_found=False),
     Bug("a thread is unpinned relaxed", INTERNAL, "self.epoch.store(Epoch::starting(), Ordering::Release)",
-        "self.epoch.store(Epoch::starting(), Ordering::Relaxed)"),
+        "self.epoch.store(Epoch::starting(), Ordering::Relaxed)", is_found=False),
 ]
 
 BYTES_FILE = "src/bytes.rs"
@@ -74,9 +75,9 @@ BYTES = [
         "(*shared).ref_cnt.load(Ordering::Relaxed)"),
     Bug("the loser of two first clones drops the buffer", BYTES_FILE, "mem::forget(*shared);", "drop(*shared);"),
     Bug("a handle is dropped relaxed", BYTES_FILE, "(*ptr).ref_cnt.fetch_sub(1, Ordering::Release)",
-        "(*ptr).ref_cnt.fetch_sub(1, Ordering::Relaxed)"),
+        "(*ptr).ref_cnt.fetch_sub(1, Ordering::Relaxed)", is_found=False),
     Bug("a buffer is shared relaxed", BYTES_FILE, "shared as _, Ordering::AcqRel, Ordering::Acquire",
-        "shared as _, Ordering::Relaxed, Ordering::Relaxed"),
+        "shared as _, Ordering::Relaxed, Ordering::Relaxed", is_found=False),
 ]
 
 SLOT, STACK = "src/page/slot.rs", "src/page/stack.rs"

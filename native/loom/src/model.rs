@@ -83,7 +83,7 @@ impl Builder {
         F: Fn() + Sync + Send + 'static,
     {
         let place = Location::caller();
-        pct::check_with(self.config(), move || of_run(&test, place));
+        pct::check_with(self.config(), move || of_run(&test, place, true));
     }
 
     fn config(&self) -> Config {
@@ -99,15 +99,15 @@ impl Builder {
     }
 }
 
-/// A run: the test, the ends of all threads, and what is left then.
-#[track_caller]
-fn of_run(test: &impl Fn(), place: &'static Location<'static>) {
+/// A run: the test, the ends of all threads, and what is left then, where leaks fail it.
+#[doc(hidden)]
+pub fn of_run(test: &impl Fn(), place: &'static Location<'static>, fails_by_leaks: bool) {
     let run = run::begin();
     test();
     thread::drop_locals();
     pct::layer::join_all_at(place);
     run.drop_statics();
-    run.end();
+    run.end(fails_by_leaks);
 }
 
 #[cfg(test)]

@@ -92,8 +92,8 @@ impl Run {
     }
 
     /// All threads have ended. What is left fails the run, where it was made.
-    pub fn end(&self) {
-        let first = locked(&self.kept).left.values().next().copied();
+    pub fn end(&self, fails_by_leaks: bool) {
+        let first = locked(&self.kept).left.values().next().copied().filter(|_| fails_by_leaks);
         if let Some(Left { what, place }) = first {
             let many = locked(&self.kept).left.len();
             let message = match many {
