@@ -4,7 +4,9 @@ for the program has them, with parts on processors of their own, and of the line
 import json
 import os
 import pty
+import re
 import subprocess
+import time
 
 from hunt_calls import HUNT, PCT, TOP, at, environment, hunt
 
@@ -28,6 +30,28 @@ def rounds(room):
     yield "--time ends the search, and it is told how to go on", status == 0 and is_told
     yield from processors(room)
     yield from on_a_terminal()
+
+
+def timed(_):
+    """A hunt without a number of seeds has a time, and runs all choices of a depth where these take less."""
+    begun = time.monotonic()
+    status, text, _ = hunt("examples/models/srcu.pct", "--quiet", "--certify", "0")
+    yield "a bug of 1 in 4,096 choices is found, which 4,000 seeds miss", status == 1 and "failed Reader 17" in text
+    yield "all choices of its depth are run", "all 8,192 choices of depth 4: 2 fail" in text
+    by_seeds = hunt("examples/models/srcu.pct", "--quiet", "--certify", "0", "--seeds", "4000")
+    yield "the seeds miss it", by_seeds[0] == 0 and "nothing failed" in by_seeds[1]
+    yield "it ends soon after the first failure", time.monotonic() - begun < 60
+    status, text, _ = hunt("examples/lost_update_mended.pct", "--quiet", "--depth", "3")
+    yield "what would have been found", status == 0 and "a bug of depth 2 or 3 in runs of at most 6 steps: found, " \
+        "as all choices were run" in text.replace("\n    ", " ")
+    status, text, _ = hunt("examples/philosophers_mended.pct", "--quiet", "--time", "2")
+    told = re.search(r"([\d,]+) of 19,200,000 choices of depth 5, drawn: none fails\n", text)
+    drawn = int(told.group(1).replace(",", "")) if told else 0
+    yield "by chance", drawn > 0 and f"1 in 800,000 draws or more show it, and {drawn:,} were made" in \
+        text.replace("\n    ", " ")
+    yield "how it goes on", f"--time 2 --from {drawn + 1}\n" in text
+    document = json.loads(hunt("examples/models/srcu.pct", "--quiet", "--certify", "0", "--json")[1])
+    yield "the document's rounds", [it["depth"] for it in document["rounds"]] == list(range(1, 6))
 
 
 def campaigns(script, document):

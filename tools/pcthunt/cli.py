@@ -25,12 +25,13 @@ from pcthunt.why import why_words
 from pcthunt.report import Result, text_of
 from pcthunt.rounds import Crew, Parts
 from pcthunt.shorter import Source
-from pcthunt.settings import Settings, processors
+from pcthunt.settings import DEPTH, DEPTH_BY_SEEDS, SECONDS, SEEDS_OF_A_ROUND, Settings, processors
 
 HELP = """Looks for the orders of steps in which a script goes wrong, and tells what happens in each, by pct alone.
 
-A hunt goes in rounds: 200 seeds at depth 1, and then a campaign at each of the depths 2, 3 and 4. Failures that are
-one bug come under one heading, each with its shortest run, where its values came from, its data races, what it needs,
+A hunt has ten seconds, and two once something failed. It runs all choices of each depth that they suffice for, and
+else seeds in turns that grow. With --seeds it has rounds: 200 seeds at depth 1, and then so many at each of the depths
+2, 3 and 4; the same words then give the same text anywhere. Failures that are one bug come under one heading, each with its shortest run, where its values came from, its data races, what it needs,
 and a directive that certifies it. SCRIPT may be a folder: then each of its scripts has to come to what its line
 '# hunt: passes', '# hunt: fails' or '# hunt: VERDICT' says, or NAME.expect beside it; to pass where there is none."""
 STATUS = """The status is 0 where nothing failed (of a folder: where each script came to what it should), 1 where
@@ -74,14 +75,15 @@ def parser() -> argparse.ArgumentParser:
                     formatter_class=argparse.RawDescriptionHelpFormatter)
     it.add_argument("script", metavar="SCRIPT", help="a script, or a folder of scripts NAME.pct")
     search = it.add_argument_group("the search")
-    search.add_argument("--depth", type=number(1, 8), default=4, metavar="DEPTH", help="the greatest depth (4)")
-    search.add_argument("--seeds", type=number(1, 10**9), default=10000, metavar="N",
-                        help="seeds of each round (10000)")
+    search.add_argument("--depth", type=number(1, 8), metavar="DEPTH",
+                        help="the greatest depth (5; with --seeds 4)")
+    search.add_argument("--seeds", type=number(1, 10**9), metavar="N",
+                        help="seeds of each round, in place of a time")
     search.add_argument("--from", type=number(0, 2**64 - 1), default=1, metavar="SEED", dest="first",
                         help="the first seed of each round (1)")
     search.add_argument("--limit", type=number(1, 100000), default=10000, metavar="STEPS",
                         help="how many steps a run may have (10000)")
-    search.add_argument("--time", type=seconds, metavar="SECONDS", help="ends the search")
+    search.add_argument("--time", type=seconds, metavar="SECONDS", help="ends the search (10)")
     search.add_argument("--first", action="store_true", dest="is_first_enough",
                         help="ends it after the first round with a failure")
     search.add_argument("--certify", type=number(0, 10**6), default=2000, metavar="N",
@@ -101,8 +103,12 @@ def parser() -> argparse.ArgumentParser:
 
 def settings_of(given: argparse.Namespace, words: list[str]) -> Settings:
     rest = searching(words, given.script)
-    return Settings(given.depth, given.seeds, given.first, given.limit, given.time, given.is_first_enough,
-                    given.jobs or len(processors()), given.is_quiet, given.certify, given.sshlogin, rest)
+    is_timed = given.seeds is None and given.sshlogin is None
+    depth = given.depth or (DEPTH if is_timed else DEPTH_BY_SEEDS)
+    seconds = given.time or (SECONDS if is_timed else None)
+    return Settings(depth, given.seeds or SEEDS_OF_A_ROUND, given.first, given.limit, seconds, is_timed,
+                    given.time is not None, given.is_first_enough, given.jobs or len(processors()), given.is_quiet,
+                    given.certify, given.sshlogin, rest)
 
 
 def searching(words: list[str], script: str) -> list[str]:

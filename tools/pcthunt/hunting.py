@@ -19,8 +19,17 @@ from pcthunt.rounds import Crew, Parts, Round, Search
 from pcthunt.settings import Settings
 from pcthunt.shorter import Form, Source
 from pcthunt.states import Json
+from pcthunt.timed import TimedSearch
 from pctmodel.directive import Directive, read_directive
 from pctmodel.script import Script
+
+
+def going_on(rounds: list[Round], settings: Settings) -> int:
+    """The seed from which a search that was ended goes on."""
+    drawn = [it.next_seed() for it in rounds if it.is_drawn and it.depth > 1]
+    if settings.is_timed:
+        return min(drawn, default=settings.first)
+    return rounds[-1].first if rounds[-1].is_whole() else rounds[-1].next_seed()
 
 
 class Hunt:
@@ -39,15 +48,17 @@ class Hunt:
         """The result of the hunt. Where the search is interrupted, what it found is explained; where that is
         interrupted, too, it is reported as far as it went."""
         progress = Progress(self.settings.is_quiet, self.settings.seconds)
-        search = Search(self.settings, self.program, self.source, parts, progress)
+        kind = TimedSearch if self.settings.is_timed else Search
+        if self.settings.is_timed and self.program.has_caller():
+            parts.serving = ["--serve", "caller"]
+        search = kind(self.settings, self.program, self.source, parts, progress)
         rounds = search.run()
         if search.why_ended == "interrupted":
             INTERRUPTIONS.answer()
         result = Result(self.title, rounds, [], failures_of(rounds, self.source), search.why_ended, None,
                         source=self.source)
         if search.why_ended:
-            round_ = rounds[-1]
-            first = round_.first if round_.is_whole() else round_.next_seed()
+            first = going_on(rounds, self.settings)
             result.goes_on = self.settings.command(self.title, **{"from": first})
         self.headings = Headings(self.program, self.source)
         progress.tell(f"a run of each verdict is made, of {len(result.failures)}")

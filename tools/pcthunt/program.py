@@ -139,5 +139,8 @@ class Program:
         with self.lock:
             self.is_stopped = False
 
+    def has_caller(self) -> bool:
+        return "--serve caller" in self.call("--help").out
+
     def has_sweep(self) -> bool:
         return any(line.split()[1:2] == ["sweep"] for line in self.call("--help").out.splitlines())

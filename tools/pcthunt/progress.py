@@ -32,7 +32,7 @@ class Progress:
         rate = done / max(now - self.round_begun, 0.001)
         left = (wanted - done) / rate if rate else None
         if self.end is not None:
-            left = min(self.end - now, left) if left is not None else self.end - now
+            left = max(0.0, min(self.end - now, left) if left is not None else self.end - now)
         told = f"round {number}, depth {depth}: {done:,} of {wanted:,} seeds, {rate:,.0f} a second, {failures:,} fail"
         self.write(told + (f", {left:,.0f} s left" if left is not None else ""))
 

@@ -73,6 +73,11 @@ def round_line(round_: Round) -> str:
     fail = "none fails" if failures == 0 else "1 fails" if failures == 1 else f"{failures:,} fail"
     if round_.sweep is not None:
         return f"all {round_.wanted:,} choices of depth {round_.depth}: {fail}"
+    if round_.choices:
+        part = 100 * round_.done() / round_.choices
+        of = f" ({part:.0f} %)" if part >= 1 else ""
+        drawn = f"{round_.done():,} of {round_.choices:,} choices of depth {round_.depth}{of}, drawn"
+        return f"{drawn if part < 100 else f'{round_.done():,} draws at depth {round_.depth}'}: {fail}"
     done = f"{round_.done():,} seeds" if round_.is_whole() else f"{round_.done():,} of {round_.wanted:,} seeds"
     points = f", points in 1 to {round_.steps}" if round_.depth > 1 else ""
     return f"depth {round_.depth}: {done} from {round_.first} on{points}: {fail}"
@@ -93,6 +98,25 @@ def round_lines(result: Result) -> list[str]:
         rest = [it for it in result.rounds if it.form >= MOST_FORMS]
         lines.append(f"    and {len(forms) - MOST_FORMS} more: {sum(it.done() for it in rest):,} runs: "
                      f"{sum(it.failures() for it in rest):,} fail")
+    return lines
+
+
+def would_be_found(result: Result) -> list[str]:
+    """Where nothing failed, which bugs would have, by counts alone."""
+    own = [it for it in result.rounds if it.choices and it.depth > 1 and it.form == 0]
+    threads = len(result.source.forms[0].script.threads) if result.source else 0
+    lines = []
+    swept = [it for it in own if it.sweep is not None]
+    for steps in sorted({it.steps for it in swept}):
+        depths = [str(it.depth) for it in swept if it.steps == steps]
+        lines += folded(f"a bug of depth {' or '.join(depths)} in runs of at most {steps:,} steps: found, as all "
+                        "choices were run", "  ", "    ")
+    for round_ in own:
+        if round_.sweep is None:
+            least = threads * round_.steps ** (round_.depth - 1)
+            lines += folded(f"a bug of depth {round_.depth} in runs of at most {round_.steps:,} steps: by chance: by "
+                            f"PCT's bound 1 in {least:,} draws or more show it, and {round_.done():,} were made", "  ",
+                            "    ")
     return lines
 
 
@@ -220,6 +244,7 @@ def text_of(result: Result) -> str:
         what = "no run came to its end"
     lines = [f"{shown(result.title)}: {what}"]
     lines += round_lines(result)
+    lines += [] if result.failures else would_be_found(result)
     if result.why_ended:
         lines.append(f"  The search was ended: {result.why_ended}. It goes on by")
         lines.append(f"    {result.goes_on}")

@@ -47,6 +47,9 @@ class Round:
     rows: list[Row] = field(default_factory=list)
     sweep: list[Choice] | None = None
     form: int = 0  # of the plain scripts that one, from 0
+    choices: int = 0  # of its depth, in a hunt with a time
+    passed: int = 0  # seeds that passed and of which no row was kept
+    is_drawn: bool = False
     longest: int = 0  # steps of a run that wasn't cut, as far as they are known
 
     def failures(self) -> int:
@@ -55,13 +58,15 @@ class Round:
         return sum(row.verdict != "passed" for row in self.rows)
 
     def done(self) -> int:
-        return self.wanted if self.sweep is not None else len(self.rows)
+        return self.wanted if self.sweep is not None else len(self.rows) + self.passed
 
     def is_whole(self) -> bool:
-        return self.done() == self.wanted
+        return self.is_drawn or self.done() == self.wanted
 
     def next_seed(self) -> int:
         """The first seed that wasn't run."""
+        if self.is_drawn:
+            return (self.first + self.done()) % SEEDS
         seeds = {row.seed for row in self.rows}
         return next(seed for place in itertools.count() if (seed := (self.first + place) % SEEDS) not in seeds)
 
@@ -92,12 +97,14 @@ class Parts:
     def __init__(self, program: Program, script: str, crew: Crew) -> None:
         self.program, self.script, self.crew = program, script, crew
         self.size = 1
+        self.serving: list[str] = []  # the words by which one thread makes all runs
         self.pending: dict[Future[tuple[Report, float] | None], int] = {}
 
     def words(self, round_: Round, first: int, count: int) -> list[str]:
         words = ["campaign", self.script, "--from", str(first), "--count", str(count), "--depth", str(round_.depth),
                  "--limit", str(round_.limit)]
-        return [*words, "--steps", str(round_.steps)] if round_.steps else words
+        words += ["--steps", str(round_.steps)] if round_.steps else []
+        return [*words, *self.serving]
 
     def make(self, round_: Round, first: int, count: int) -> tuple[Report, float] | None:
         begun = time.monotonic()
@@ -240,6 +247,7 @@ class Search:
         """All choices of an order and points, by the program's sweep."""
         words = ["sweep", self.parts.script, "--depth", str(round_.depth), "--limit", str(round_.limit)]
         words += ["--steps", str(round_.steps)] if round_.steps else []
+        words += self.parts.serving
         self.progress.begin_round()
         swept = self.parts.crew.pool.submit(self.program.whole, *words)
         try:

@@ -8,6 +8,7 @@ from dataclasses import dataclass, field
 from pcthunt.output import typed
 
 AT_DEPTH_1 = 200  # seeds of round 0
+SECONDS, DEPTH, DEPTH_BY_SEEDS, SEEDS_OF_A_ROUND = 10.0, 5, 4, 10000  # where none are given
 
 
 @dataclass
@@ -19,6 +20,8 @@ class Settings:
     first: int = 0  # the first seed of each round
     limit: int = 10000
     seconds: float | None = None
+    is_timed: bool = False  # it has no number of seeds, and ends by its time
+    is_time_given: bool = False
     is_first_enough: bool = False
     jobs: int = 0
     is_quiet: bool = False
