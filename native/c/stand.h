@@ -288,12 +288,12 @@ void take_signals(void);
 /* --- stand_object.c: what stands at the address of a semaphore, a barrier.. in this run --- */
 
 typedef struct Object {
-    const volatile void *at;
+    volatile void *at;
     bool is_known; /* its values were set */
     int64_t value;
     uint32_t size, arrived;
 } Object;
-Object *object_at(const volatile void *at);
+Object *object_at(volatile void *at);
 
 /* --- stand_wait.c --- */
 
@@ -301,7 +301,7 @@ int cond_wait_at(const volatile void *cond, const volatile void *mutex,
                  const struct timespec *until, clockid_t clock);
 void cond_signal_at(const volatile void *cond);
 void cond_broadcast_at(const volatile void *cond);
-int once_at(const volatile void *once, void (*function)(void));
+int once_at(volatile void *once, void (*function)(void));
 uint64_t nanoseconds(const struct timespec *time);
 /* A time of a clock as a deadline of the program's clock. */
 uint64_t deadline_of(const struct timespec *until, clockid_t clock);

@@ -6,7 +6,7 @@
 static Object objects[MOST_OBJECTS];
 static uint32_t object_count;
 
-Object *object_at(const volatile void *at) {
+Object *object_at(volatile void *at) {
     uint32_t slot = (uint32_t)(((uintptr_t)at >> 2) * 2654435761U) % MOST_OBJECTS;
     while (objects[slot].at && objects[slot].at != at) slot = (slot + 1) % MOST_OBJECTS;
     if (!objects[slot].at && ++object_count == MOST_OBJECTS)

@@ -196,32 +196,41 @@ EXPORT int pthread_barrier_wait(pthread_barrier_t *barrier) {
 
 /* --- Once, and statics in functions --- */
 
-enum { ONCE_NEW, ONCE_RUNS, ONCE_DONE };
+enum { ONCE_NEW, ONCE_RUNS, ONCE_DONE = 2 }; /* the last one is glibc's, too */
 
-int once_at(const volatile void *once, void (*function)(void)) {
+/* At the end of the function, and where it ends by an exception or is cancelled: then another call makes it. */
+static void end_once(Object **object) {
+    const volatile void *once = (*object)->at;
+    if ((*object)->value == ONCE_RUNS) (*object)->value = ONCE_NEW;
+    step("once is done", once);
+    release(once);
+    wake_all(once, "once is done for");
+    changed();
+}
+
+static void make_once(Object *made, void (*function)(void)) {
+    Object *object __attribute__((cleanup(end_once))) = made;
     uintptr_t pc = self.pc;
+    object->value = ONCE_RUNS;
+    function();
+    self.pc = pc;
+    object->value = ONCE_DONE;
+    *(volatile int *)object->at = ONCE_DONE; /* for a process that is forked */
+}
+
+int once_at(volatile void *once, void (*function)(void)) {
     step("once", once);
     Object *object = object_at(once);
+    if (*(volatile int *)once == ONCE_DONE) object->value = ONCE_DONE; /* perhaps before the run */
     while (object->value == ONCE_RUNS) {
         begin_wait(WAITS_IN_QUEUE, once);
         finish_wait("waits for a once", once);
     }
-    if (object->value == ONCE_DONE) {
-        acquire(once);
-        return 0;
-    }
-    object->value = ONCE_RUNS;
-    function();
-    self.pc = pc;
-    step("once is done", once);
-    release(once);
-    object->value = ONCE_DONE;
-    wake_all(once, "once is done for");
-    changed();
+    if (object->value == ONCE_DONE) acquire(once);
+    else make_once(object, function);
     return 0;
 }
 
-/* std::call_once of an exception leaves it as it was: it unwinds through libc's; here by this. */
 EXPORT int pthread_once(pthread_once_t *once, void (*function)(void)) {
     ENTER();
     return is_tested() ? once_at(once, function) : REAL(pthread_once)(once, function);
