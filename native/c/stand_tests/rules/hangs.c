@@ -2,7 +2,7 @@
 #include <pthread.h>
 #include <stdatomic.h>
 #include <unistd.h>
-static atomic_int never;
+atomic_int never; /* not static: clang would make a local of it, without a step */
 int main(int count, char **words) {
     int ends[2];
     char letter;
