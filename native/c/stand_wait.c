@@ -198,24 +198,30 @@ EXPORT int pthread_barrier_wait(pthread_barrier_t *barrier) {
 
 enum { ONCE_NEW, ONCE_RUNS, ONCE_DONE = 2 }; /* the last one is glibc's, too */
 
-/* At the end of the function, and where it ends by an exception or is cancelled: then another call makes it. */
-static void end_once(Object **object) {
-    const volatile void *once = (*object)->at;
-    if ((*object)->value == ONCE_RUNS) (*object)->value = ONCE_NEW;
+typedef struct OnceCall {
+    Object *object;
+    bool is_done;
+} OnceCall;
+
+/* At the end of the function, and where it ends by an exception or is cancelled: then another call makes it. What
+   it did is released before anybody sees that it is done. */
+static void end_once(OnceCall *call) {
+    volatile void *once = call->object->at;
     step("once is done", once);
     release(once);
+    call->object->value = call->is_done ? ONCE_DONE : ONCE_NEW;
+    if (call->is_done) *(volatile int *)once = ONCE_DONE; /* for a process that is forked */
     wake_all(once, "once is done for");
     changed();
 }
 
-static void make_once(Object *made, void (*function)(void)) {
-    Object *object __attribute__((cleanup(end_once))) = made;
+static void make_once(Object *object, void (*function)(void)) {
+    OnceCall call __attribute__((cleanup(end_once))) = { object, false };
     uintptr_t pc = self.pc;
     object->value = ONCE_RUNS;
     function();
     self.pc = pc;
-    object->value = ONCE_DONE;
-    *(volatile int *)object->at = ONCE_DONE; /* for a process that is forked */
+    call.is_done = true;
 }
 
 int once_at(volatile void *once, void (*function)(void)) {

@@ -59,7 +59,8 @@ class Report:
         for step in steps:
             users = [place for place in self.symbols.users(step.frames) if place.function != "main"]
             if users:
-                return short_name(users[-1].function)
+                name = short_name(users[-1].function)
+                return name if name != "operator" else f"lambda_{users[-1].line}"
         return f"thread_{thread}"
 
     def thread_names(self) -> dict[int, str]:
