@@ -70,6 +70,25 @@ EXPORT void free(void *block) {
     else free_tested(block, (uintptr_t)__builtin_return_address(0));
 }
 
+/* C++'s operators delete, which are libstdc++'s calls of free: so the place is that of the delete. A program that
+   has its own goes before these. */
+#define DELETE(name, ...)                                                                          \
+    EXPORT void name(void *block __VA_OPT__(, ) __VA_ARGS__) {                                     \
+        if (!block) return;                                                                        \
+        if (!is_tested()) __libc_free(block);                                                      \
+        else free_tested(block, (uintptr_t)__builtin_return_address(0));                           \
+    }
+DELETE(_ZdlPv)
+DELETE(_ZdaPv)
+DELETE(_ZdlPvm, size_t size __attribute__((unused)))
+DELETE(_ZdaPvm, size_t size __attribute__((unused)))
+DELETE(_ZdlPvSt11align_val_t, size_t alignment __attribute__((unused)))
+DELETE(_ZdaPvSt11align_val_t, size_t alignment __attribute__((unused)))
+DELETE(_ZdlPvmSt11align_val_t, size_t size __attribute__((unused)),
+       size_t alignment __attribute__((unused)))
+DELETE(_ZdaPvmSt11align_val_t, size_t size __attribute__((unused)),
+       size_t alignment __attribute__((unused)))
+
 EXPORT void *realloc(void *block, size_t size) {
     static void *(*real)(void *, size_t);
     if (!block) return malloc(size);
