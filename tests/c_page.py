@@ -20,12 +20,18 @@ class Page:
         if prefix is None:
             raise RuntimeError("./dist made no archive")
         library = os.path.join(prefix, "lib")
-        self.paths = {"PKG_CONFIG_PATH": os.path.join(library, "pkgconfig"), "LD_LIBRARY_PATH": library}
-        with open(os.path.join(prefix, "share", "doc", "pct", "docs", name), encoding="utf-8") as file:
+        self.paths = {"PKG_CONFIG_PATH": os.path.join(library, "pkgconfig")}
+        self.docs = os.path.join(prefix, "share", "doc", "pct", "docs")
+        with open(os.path.join(self.docs, name), encoding="utf-8") as file:
             self.text = file.read().replace("/usr/local", str(prefix))
 
     def blocks(self, kind: str) -> list[str]:
         return re.findall(rf"^```{kind}\n(.*?)^```$", self.text, re.M | re.S)
+
+    def broken_links(self) -> list[str]:
+        """Links of the page to files that aren't installed."""
+        links = re.findall(r"\]\(([^)#:]+)(?:#[^)]*)?\)", self.text)
+        return [link for link in links if not os.path.exists(os.path.join(self.docs, link))]
 
     def here(self, lines: str) -> subprocess.CompletedProcess[str]:
         return subprocess.run(["sh", "-c", lines], capture_output=True, text=True, check=False, cwd=self.folder,

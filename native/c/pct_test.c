@@ -6,23 +6,33 @@
  * with the answer of a step to the thread that took it, and comes back with that thread's next ask.
  * Only who brings it back looks at the book. An ask is posted when the book waits for it.
  */
+#if defined PCT_PTHREAD_H || defined PCT_STDATOMIC_H || defined PCT_THREADS_H || defined PCT_POLL_H
+#error "pct_test.c is compiled apart, without -include"
+#endif
 #define _GNU_SOURCE
 #include "pct_test.h"
 
 #include <dlfcn.h>
+#include <elf.h>
+#include <execinfo.h>
 #include <fcntl.h>
 #include <limits.h>
 #include <malloc.h>
+#include <poll.h>
 #include <sched.h>
 #include <semaphore.h>
 #include <signal.h>
+#include <spawn.h>
 #include <stdarg.h>
 #include <stdio.h>
 #include <stdlib.h>
 #include <string.h>
 #include <sys/mman.h>
+#include <sys/prctl.h>
+#include <sys/stat.h>
 #include <sys/syscall.h>
 #include <sys/wait.h>
+#include <ucontext.h>
 #include <unistd.h>
 
 #define MOST 64            /* threads, and objects of each kind */
@@ -30,6 +40,9 @@
 #define MOST_POINTERS 4096 /* pointer values of a run */
 #define MOST_FAILING 20    /* failing runs, after which a search stops */
 #define MOST_TESTS 1024    /* of a main */
+#define MOST_FRAMES 24     /* of a stack that is looked at */
+#define MOST_CALLERS 1024  /* of which debug information is kept */
+#define MOST_SLEEPS 5      /* of a thread in which nothing changes */
 #define NOBODY UINT32_MAX
 #define BIT(n) ((uint64_t)1 << (n))
 #define LENGTH(list) (sizeof(list) / sizeof *(list))
@@ -59,14 +72,21 @@ static const uint64_t TRIES = BIT(PCT_ASK_TRY_LOCK) | BIT(PCT_ASK_TRY_DOWN) |
 /* In this order. */
 /* clang-format off */
 #include "parts/state.c"
+#include "parts/debug.c"
+#include "parts/places.c"
 #include "parts/texts.c"
 #include "parts/book.c"
+#include "parts/sanitizers.c"
 #include "parts/memory.c"
 #include "parts/baton.c"
 #include "parts/freed.c"
 #include "parts/threads.c"
 #include "parts/objects.c"
+#include "parts/poll.c"
+#include "parts/statics.c"
+#include "parts/silence.c"
 #include "parts/child.c"
+#include "parts/left.c"
 #include "parts/runner.c"
 #include "parts/tell.c"
 #include "parts/files.c"
@@ -74,4 +94,5 @@ static const uint64_t TRIES = BIT(PCT_ASK_TRY_LOCK) | BIT(PCT_ASK_TRY_DOWN) |
 #include "parts/replay.c"
 #include "parts/directives.c"
 #include "parts/check.c"
+#include "parts/options.c"
 /* clang-format on */

@@ -42,8 +42,8 @@ typedef struct PctPlace {
 
 /* Takes the words of main: --test NAME, --seeds N, --depth D, --from SEED, --replay FILE, --find,
    --certify, --lanes, --trace FILE, --json FILE, --campaign, --traces FILE, --isolate, --threads N,
-   --steps K, --limit STEPS, --patience SECONDS. A word that it doesn't know, and a test that isn't
-   there, end the program with 1. */
+   --steps K, --limit STEPS, --patience SECONDS, --help. A word that it doesn't know, and a test that
+   isn't there, end the program with 1. */
 void pct_options(int count, char **words);
 
 /* This is called before each run, outside of it: it puts globals back. */
@@ -74,6 +74,22 @@ void pct_step_at(PctPlace place);
 /* For loops that look again and again: waits until another thread's step has changed something. */
 void pct_yield_at(PctPlace place);
 #define pct_yield() pct_yield_at(PCT_OF())
+
+/* For sleeps: a step that touches nothing; and from the sixth on in which nobody, the thread itself
+   neither, has changed something, as pct_yield, so that a loop which looks and sleeps doesn't go on
+   alone. */
+void pct_sleep_at(PctPlace place);
+#define pct_sleep() pct_sleep_at(PCT_OF())
+
+/* Both, as what answers 0: as POSIX has them. */
+static inline int pct_yielded_at(PctPlace place) {
+    pct_yield_at(place);
+    return 0;
+}
+static inline int pct_slept_at(PctPlace place) {
+    pct_sleep_at(place);
+    return 0;
+}
 
 /* --- Threads --- */
 
@@ -135,8 +151,10 @@ typedef struct pct_mutex_t {
 #define PCT_ERRORCHECK_MUTEX_INITIALIZER \
     { PCT_OBJECT(0), PCT_MUTEX_ERRORCHECK, 0, 0 }
 
-/* The attribute is the kind, in place of a pthread_mutexattr_t. */
+/* The attributes are a pthread_mutexattr_t's address, of which the type is looked at, or NULL; or
+   the kind itself. */
 int pct_mutex_init(pct_mutex_t *mutex, int kind);
+int pct_mutex_init_by(pct_mutex_t *mutex, const pthread_mutexattr_t *attributes);
 int pct_mutex_destroy(pct_mutex_t *mutex);
 int pct_mutex_at(pct_mutex_t *mutex, PctAskKind ask, PctPlace place);
 #define pct_mutex_lock(mutex) pct_mutex_at((mutex), PCT_ASK_LOCK, PCT_OF(mutex))
@@ -233,10 +251,14 @@ typedef struct pct_once_t {
     { PCT_MUTEX_INITIALIZER, false }
 
 int pct_once_at(pct_once_t *once, void (*function)(void), PctPlace place);
+/* Its halves: whether the caller is to do it, which is left in any case, and whether it was done.
+ */
+bool pct_once_enter_at(pct_once_t *once, PctPlace place);
+int pct_once_leave_at(pct_once_t *once, bool is_done, PctPlace place);
 #define pct_once(once, function) pct_once_at((once), (function), PCT_OF(once))
 
-/* --- Variables: any int, long, long long, their unsigned forms, and pointers. A variable is its
-   address --- */
+/* --- Variables: any _Bool, char, short, int, long, long long, their unsigned forms, and pointers.
+   A variable is its address --- */
 
 /* PCT_PLAIN and PCT_WAKE are the layer's own. */
 typedef enum PctAccess {
@@ -262,9 +284,18 @@ int64_t pct_access(PctAccess access, volatile void *at, unsigned form, int64_t x
 /* As of PCT_CAS: whether it was exchanged. */
 bool pct_cas_at(volatile void *at, unsigned form, int64_t expected, int64_t value, PctPlace place);
 
+/* As of PCT_CAS, where `expected` holds the value, and gets the one that was there: whether it was
+   exchanged. */
+bool pct_compare_at(volatile void *at, unsigned form, void *expected, int64_t value,
+                    PctPlace place);
+
 /* What stood in this memory is gone: it was freed, say. Its next use is that of new variables. No
    step. */
 void pct_forget(const volatile void *at, size_t bytes);
+
+/* As below, of a variable of that form. */
+int pct_wait_at(volatile void *at, unsigned form, int64_t value, PctPlace place);
+int pct_wake_at(volatile void *at, unsigned most, PctPlace place);
 
 /* Looks, and sleeps where the value is there, in one step: 0 once it is woken, or EAGAIN. Wakes at
    most so many, those who slept longest, and says how many. */
@@ -275,41 +306,71 @@ int pct_futex_wake_at(volatile uint32_t *at, unsigned most, PctPlace place);
 
 #ifdef __cplusplus
 }
+
+static inline int pct_mutex_init(pct_mutex_t *mutex, const pthread_mutexattr_t *attributes) {
+    return pct_mutex_init_by(mutex, attributes);
+}
+/* NULL is a number in C++. */
+static inline int pct_mutex_init(pct_mutex_t *mutex, long kind) {
+    return pct_mutex_init(mutex, (int)kind);
+}
 #else
 
-/* The form of what `at` points to; other sizes than 4 and 8 bytes are refused by the compiler. */
+#define pct_mutex_init(mutex, attributes) \
+    _Generic((attributes), int \
+             : (pct_mutex_init), default \
+             : pct_mutex_init_by)((mutex), (attributes))
+
+/* What X makes of the type that `at` points to: X(type, name) of numbers, and `pointer` else. */
+#define PCT_BY_TYPE(at, X, pointer) \
+    _Generic(*(at), _Bool \
+             : X(_Bool, bool), char \
+             : X(char, char), signed char \
+             : X(signed char, signed_char), unsigned char \
+             : X(unsigned char, unsigned_char), short \
+             : X(short, short), unsigned short \
+             : X(unsigned short, unsigned_short), int \
+             : X(int, int), unsigned \
+             : X(unsigned, unsigned), long \
+             : X(long, long), unsigned long \
+             : X(unsigned long, unsigned_long), long long \
+             : X(long long, long_long), unsigned long long \
+             : X(unsigned long long, unsigned_long_long), default \
+             : pointer)
+
+/* The form of what `at` points to; other sizes than 1, 2, 4 and 8 bytes are refused by the
+   compiler. */
+#define PCT_IS_SIZE(bytes) ((bytes) == 1 || (bytes) == 2 || (bytes) == 4 || (bytes) == 8)
+#define PCT_SIGN(type, name) ((type)-1 < (type)1 ? 0U : (unsigned)PCT_UNSIGNED)
 #define PCT_FORM(at) \
-    ((unsigned)(sizeof *(at) / sizeof(char[sizeof *(at) == 4 || sizeof *(at) == 8 ? 1 : -1])) | \
-     _Generic(*(at), int : 0U, long : 0U, long long : 0U, unsigned \
-              : (unsigned)PCT_UNSIGNED, unsigned long \
-              : (unsigned)PCT_UNSIGNED, unsigned long long \
-              : (unsigned)PCT_UNSIGNED, default \
-              : (unsigned)PCT_POINTER))
+    ((unsigned)(sizeof *(at) / sizeof(char[PCT_IS_SIZE(sizeof *(at)) ? 1 : -1])) | \
+     PCT_BY_TYPE(at, PCT_SIGN, (unsigned)PCT_POINTER))
 
 /* A value as one of the type that `at` points to; of pointers as a void *. */
-#define PCT_AS(name, type) \
+#define PCT_AS(type, name) \
     static inline type pct_as_##name(int64_t value) { return (type)value; }
+PCT_AS(_Bool, bool)
+PCT_AS(char, char)
+PCT_AS(signed char, signed_char)
+PCT_AS(unsigned char, unsigned_char)
+PCT_AS(short, short)
+PCT_AS(unsigned short, unsigned_short)
 PCT_AS(int, int)
-PCT_AS(long, long)
-PCT_AS(long_long, long long)
 PCT_AS(unsigned, unsigned)
-PCT_AS(unsigned_long, unsigned long)
-PCT_AS(unsigned_long_long, unsigned long long)
-PCT_AS(pointer, void *)
+PCT_AS(long, long)
+PCT_AS(unsigned long, unsigned_long)
+PCT_AS(long long, long_long)
+PCT_AS(unsigned long long, unsigned_long_long)
+static inline void *pct_as_pointer(int64_t value) { return (void *)(intptr_t)value; }
 #undef PCT_AS
-#define PCT_VALUE(at, value) \
-    _Generic(*(at), int \
-             : pct_as_int, long \
-             : pct_as_long, long long \
-             : pct_as_long_long, unsigned \
-             : pct_as_unsigned, unsigned long \
-             : pct_as_unsigned_long, unsigned long long \
-             : pct_as_unsigned_long_long, default \
-             : pct_as_pointer)(value)
+#define PCT_AS_NAME(type, name) pct_as_##name
+#define PCT_VALUE(at, value) PCT_BY_TYPE(at, PCT_AS_NAME, pct_as_pointer)(value)
 
-#define PCT_BITS(value) ((int64_t)(intptr_t)(value))
+static inline int64_t pct_bits(int64_t value) { return value; }
+#define PCT_BITS(at, value) \
+    _Generic(*(at), _Bool : pct_as_bool, default : pct_bits)((int64_t)(intptr_t)(value))
 #define PCT_ACCESS(access, at, x, y) \
-    pct_access((access), (at), PCT_FORM(at), PCT_BITS(x), PCT_BITS(y), PCT_OF(at))
+    pct_access((access), (at), PCT_FORM(at), PCT_BITS(at, x), PCT_BITS(at, y), PCT_OF(at))
 
 #define pct_load(at) PCT_VALUE(at, PCT_ACCESS(PCT_LOAD, at, 0, 0))
 #define pct_store(at, value) ((void)PCT_ACCESS(PCT_STORE, at, value, 0))
@@ -320,7 +381,7 @@ PCT_AS(pointer, void *)
 #define pct_cas_value(at, expected, value) PCT_VALUE(at, PCT_ACCESS(PCT_CAS, at, expected, value))
 /* Whether it was exchanged. */
 #define pct_cas(at, expected, value) \
-    pct_cas_at((at), PCT_FORM(at), PCT_BITS(expected), PCT_BITS(value), PCT_OF(at))
+    pct_cas_at((at), PCT_FORM(at), PCT_BITS(at, expected), PCT_BITS(at, value), PCT_OF(at))
 
 #endif
 #endif

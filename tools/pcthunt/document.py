@@ -97,7 +97,7 @@ def complete_run(run: Json, deal: Json, texts: Texts) -> Listed:
     previous: Json | None = None
     for number, step in enumerate(run["steps"], 1):
         thread = step["thread"]
-        step["text"] = texts.at(step["file"], step["line"])
+        step["text"] = ("after " if step.get("near") else "") + texts.at(step["file"], step["line"])
         step["own"] = world.taken[thread] + 1
         step["why"], step["over"] = why(before, step, previous)
         if number in world.lowered:
@@ -188,6 +188,8 @@ def events_of(run: Json) -> list[Event]:
 
 def sentence_of(run: Json) -> str:
     """What went wrong, in one sentence."""
+    if "died" in run:
+        return str(run["died"])
     kind, *rest = run["verdict"].split()
     last = run["steps"][-1] if run["steps"] else {"text": ""}
     at = f"line {rest[1]}" if len(rest) > 1 else ""

@@ -18,7 +18,7 @@ static void print_step(const PctEvent *step) {
     printf("%s    %s\n", said, line_text(step->line));
     if (line && *line >= '0' && *line <= '9' && strcmp(said, line) != 0)
         printf("    the trace has %s\n", line);
-    fflush(stdout);
+    if (fflush(stdout) != 0) lost("standard output");
 }
 
 /* A thread's step was taken: it is logged, and done on the memory. */
@@ -37,6 +37,7 @@ static void took(uint32_t thread, int64_t answer) {
     seat->has_changed =
         is_access(late) ? perform(thread, late, answer) : is_change(&late->ask, answer);
     if (seat->has_changed) run->news |= ~BIT(thread);
+    if (seat->has_changed) seat->sleeps = 0;
     if (run->plan.policy == BY_LIST) print_step(step);
 }
 
@@ -63,8 +64,8 @@ static bool take(uint32_t thread) {
 
 static void write_all_traces(void) {
     if (!traces) return;
-    fputs(trace_text(run->log, run->steps), traces);
-    fflush(traces);
+    bool is_written = fputs(trace_text(run->log, run->steps), traces) >= 0;
+    if (!is_written || fflush(traces) != 0) lost(test.traces);
 }
 
 /* The only place where asks are posted, as the book waits for them, and steps taken. Who has the
@@ -164,21 +165,33 @@ void pct_yield_at(PctPlace place) {
     step(PCT_ASK_DOWN, semaphore, 0, place);
 }
 
+void pct_sleep_at(PctPlace place) {
+    uint32_t me = me_at(place), *sleeps = &run->seats[me].sleeps;
+    if (run->news & BIT(me)) *sleeps = 0;
+    if (*sleeps == MOST_SLEEPS) {
+        pct_yield_at(place);
+        return;
+    }
+    run->news &= ~BIT(me);
+    pct_step_at(place);
+    ++*sleeps;
+}
+
 static uint32_t variable_at(const void *at) {
     uint32_t number = 0, many = run->many[PCT_VARIABLES];
     while (number < many && run->variables[number].at != at) number++;
     return number < many ? number : NOBODY;
 }
 
-/* Whether no other thread has touched a variable since it was made, nor is about to. */
-static bool is_alone_at(uint32_t number, uint32_t me) {
-    uint64_t others = run->variables[number].touched;
+/* The threads that are about to touch a variable. */
+static uint64_t about_to_touch(uint32_t number) {
+    uint64_t threads = 0;
     for (uint32_t i = 0; i < run->threads; i++) {
         const Late *late = &run->seats[i].late;
         bool is_about = late->state == BROUGHT || late->state == POSTED;
-        if (is_about && is_access(late) && late->at == run->variables[number].at) others |= BIT(i);
+        if (is_about && is_access(late) && late->at == run->variables[number].at) threads |= BIT(i);
     }
-    return !(others & ~BIT(me));
+    return threads;
 }
 
 /* A new variable at an access, or NOBODY. */
@@ -194,15 +207,22 @@ static uint32_t new_variable(const Late *late, PctPlace place) {
     return number;
 }
 
-/* Finds the variable of an access: another one where its memory isn't what its steps left, as long
-   as this thread alone has touched it, since it was made anew then. Where none is left, its step
-   touches nothing. */
+/* Whether what stands at the address of a variable is another one by now: one of another size, or
+   one whose memory isn't what its steps left, as long as this thread alone has touched it, since it
+   was made anew then. */
+static bool is_made_anew(uint32_t number, const Late *late, uint32_t me) {
+    uint64_t others = about_to_touch(number) & ~BIT(me), touched = run->variables[number].touched;
+    bool is_same_size = run->variables[number].bytes == (late->form & 15);
+    if (!is_same_size || late->old == run->variables[number].left) return !is_same_size && !others;
+    return !others && !(touched & ~BIT(me));
+}
+
+/* Finds the variable of an access. Where none is left, its step touches nothing. */
 static void find_variable(Late *late, uint32_t me, PctPlace place) {
     uint32_t number = variable_at(late->at), bytes = late->form & 15;
     read_memory(late);
-    bool is_same = number != NOBODY && run->variables[number].bytes == bytes;
-    if (number != NOBODY && (!is_same || late->old != run->variables[number].left) &&
-        is_alone_at(number, me)) {
+    if (late->is_forbidden) return;
+    if (number != NOBODY && is_made_anew(number, late, me)) {
         forget_variable(number);
         number = NOBODY;
     }
@@ -214,30 +234,53 @@ static void find_variable(Late *late, uint32_t me, PctPlace place) {
     late->ask = (PctAsk)PCT_ASK(PCT_ASK_READ, number, 0, 0, 0);
 }
 
-int64_t pct_access(PctAccess access, volatile void *at, unsigned form, int64_t x, int64_t y,
-                   PctPlace place) {
-    Late late = { PCT_ASK(PCT_ASK_YIELD, 0, 0, 0, 0), .access = access, .form = form };
-    late.at = (void *)at;
-    late.x = normal(x, form);
-    late.y = normal(y, form);
+/* A step of memory, whose caller returns to that address, from that frame. */
+static int64_t access_from(void *caller, void *frame, Late late, PctPlace place) {
+    late.ask.kind = PCT_ASK_YIELD;
+    late.x = normal(late.x, late.form);
+    late.y = normal(late.y, late.form);
     if (!own_seat && !child.runs) {
         read_memory(&late);
+        if (late.is_forbidden) report_forbidden(&late, caller, frame);
         write_memory(&late);
         return late.old;
     }
     uint32_t me = me_at(place);
     wake_waiters(me);
-    if (access != PCT_WAKE) find_variable(&late, me, place);
-    return ask_at(place, late);
+    if (late.access != PCT_WAKE) find_variable(&late, me, place);
+    int64_t old = ask_at(place, late);
+    if (run->seats[me].late.is_forbidden) report_forbidden(&late, caller, frame);
+    return old;
+}
+
+#define ACCESS_FROM_CALLER(late) \
+    access_from(__builtin_return_address(0), __builtin_frame_address(0), (late), place)
+
+int64_t pct_access(PctAccess access, volatile void *at, unsigned form, int64_t x, int64_t y,
+                   PctPlace place) {
+    Late late = { .access = access, .form = form, .at = (void *)at, .x = x, .y = y };
+    return ACCESS_FROM_CALLER(late);
 }
 
 bool pct_cas_at(volatile void *at, unsigned form, int64_t expected, int64_t value, PctPlace place) {
-    return pct_access(PCT_CAS, at, form, expected, value, place) == normal(expected, form);
+    Late late = { .access = PCT_CAS, .form = form, .at = (void *)at, .x = expected, .y = value };
+    return ACCESS_FROM_CALLER(late) == normal(expected, form);
 }
 
-int pct_futex_wait_at(volatile uint32_t *at, uint32_t value, PctPlace place) {
+bool pct_compare_at(volatile void *at, unsigned form, void *expected, int64_t value,
+                    PctPlace place) {
+    int64_t wanted = 0;
+    memcpy(&wanted, expected, form & 15);
+    Late late = { .access = PCT_CAS, .form = form, .at = (void *)at, .x = wanted, .y = value };
+    int64_t old = ACCESS_FROM_CALLER(late);
+    if (old == normal(wanted, form)) return true;
+    memcpy(expected, &old, form & 15);
+    return false;
+}
+
+int pct_wait_at(volatile void *at, unsigned form, int64_t value, PctPlace place) {
     uint32_t me = me_at(place);
-    if ((uint32_t)pct_access(PCT_LOAD, at, 4 | PCT_UNSIGNED, 0, 0, place) != value) return EAGAIN;
+    if (pct_access(PCT_LOAD, at, form, 0, 0, place) != normal(value, form)) return EAGAIN;
     uint32_t semaphore = own_semaphore(me, place);
     run->seats[me].sleeps_at = at;
     run->seats[me].sleeps_since = run->steps;
@@ -245,7 +288,7 @@ int pct_futex_wait_at(volatile uint32_t *at, uint32_t value, PctPlace place) {
     return 0;
 }
 
-int pct_futex_wake_at(volatile uint32_t *at, unsigned most, PctPlace place) {
+int pct_wake_at(volatile void *at, unsigned most, PctPlace place) {
     uint32_t me = me_at(place);
     uint64_t woken = (uint64_t)pct_access(PCT_WAKE, at, 4 | PCT_UNSIGNED, most, 0, place);
     uint32_t first = run->seats[me].late.ask.a;
@@ -254,4 +297,12 @@ int pct_futex_wake_at(volatile uint32_t *at, unsigned most, PctPlace place) {
         if (semaphore != first) step(PCT_ASK_UP, semaphore, 0, place);
     }
     return __builtin_popcountll(woken);
+}
+
+int pct_futex_wait_at(volatile uint32_t *at, uint32_t value, PctPlace place) {
+    return pct_wait_at(at, 4 | PCT_UNSIGNED, value, place);
+}
+
+int pct_futex_wake_at(volatile uint32_t *at, unsigned most, PctPlace place) {
+    return pct_wake_at(at, most, place);
 }

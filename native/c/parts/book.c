@@ -63,7 +63,7 @@ static uint32_t new_number(PctKind kind, int64_t first, const char *called, PctP
     if (number == MOST && kind == PCT_VARIABLES) return NOBODY;
     if (number == MOST)
         sentence("%s: a run has at most 64 objects of a kind at a time (%s)%s",
-                 place_text(at_itself(place)), KINDS[kind].word,
+                 place_text(place.file, place.line, false), KINDS[kind].word,
                  kind == PCT_SEMAPHORES ? ", and who waits in pct_yield or at a futex has one"
                                         : "");
     give_name(kind, number, called);

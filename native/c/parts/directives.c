@@ -92,5 +92,5 @@ static void tell_directive(void) {
     const char *names = names_of_run();
     while (!is_written(pct_text_directive(BYTES(names), &found, ROOM))) continue;
     fputs(text, stdout);
-    if (test.certifies) certify(&found, run->steps > shared->steps ? run->steps : shared->steps);
+    if (test.certifies) certify(&found, run->steps > search.steps ? run->steps : search.steps);
 }

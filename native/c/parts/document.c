@@ -14,10 +14,11 @@ static void put_sources(FILE *to) {
     const char *before = ",\"sources\":[{\"file\":";
     for (const Place *place = shared->places + 1; place <= shared->places + MOST_LINE; place++) {
         const Place *first = shared->places + 1; /* one in the same file */
-        while (place->file && (!first->file || strcmp(first->file, place->file) != 0)) first++;
+        while (first->file != place->file) first++;
         if (!place->file || first != place) continue;
-        char *whole = access(place->file, R_OK) == 0 ? read_file(place->file) : NULL;
-        put_text(to, before, place->file);
+        const char *file = file_of(place);
+        char *whole = access(file, R_OK) == 0 ? read_file(file) : NULL;
+        put_text(to, before, file);
         put_text(to, ",\"text\":", whole ? whole : "");
         free(whole);
         before = "},{\"file\":";
@@ -43,7 +44,8 @@ static void put_steps(FILE *to, const char *before, uint32_t from, uint32_t end)
         fprintf(to, "%s{\"thread\":\"%s\",\"ask\":\"%s\",\"line\":%d", i > from ? "," : "",
                 who(step->thread), ask_text(step), place.line);
         if (i < run->steps) fprintf(to, ",\"answer\":\"%lld\"", (long long)step->answer);
-        put_text(to, ",\"file\":", place.file);
+        put_text(to, ",\"file\":", file_of(&place));
+        if (place.is_near) fputs(",\"near\":true", to);
         fputc('}', to);
     }
 }
@@ -58,10 +60,12 @@ static void put_run(FILE *to) {
     uint32_t end = add_asking(), ended[MOST], many = 0;
     for (uint32_t thread = 0; thread < run->threads; thread++)
         if (run->seats[thread].late.state == ENDED) ended[many++] = thread;
-    fprintf(to, "{\"limit\":%llu,\"verdict\":\"%s\",\"seed\":", (unsigned long long)test.limit,
-            verdict_text());
+    fprintf(to, "{");
+    if (run->end == DIED) put_text(to, "\"died\":", run->told);
+    fprintf(to, "%s\"limit\":%llu,\"verdict\":\"%s\",\"seed\":", run->end == DIED ? "," : "",
+            (unsigned long long)test.limit, verdict_text());
     fprintf(to, plan->depth ? "{\"seed\":\"%llu\",\"depth\":%u,\"steps\":%u}" : "null",
-            (unsigned long long)plan->seed, plan->depth, shared->steps);
+            (unsigned long long)plan->seed, plan->depth, search.steps);
     put_threads(to, ",\"order\":[", plan->order, plan->threads);
     put_threads(to, "],\"ended\":[", ended, many);
     put_steps(to, "],\"steps\":[", 0, run->steps);
@@ -73,7 +77,8 @@ static void put_run(FILE *to) {
 }
 
 static void write_document(const char *trace) {
-    FILE *to = open_file(test.json, "w");
+    Output output = open_output(test.json);
+    FILE *to = output.to;
     char command[9000];
     snprintf(command, sizeof command, "%s --replay %s", test.program, trace);
     put_text(to, "{\"document\":1,\"writer\":\"pct_test.c\",\"title\":", test.title);
@@ -84,5 +89,5 @@ static void write_document(const char *trace) {
     put_run(to);
     put_text(to, ",\"again\":[{\"says\":\"shows this run again\",\"command\":", command);
     fputs("}]}]}\n", to);
-    close_file(to, test.json);
+    close_output(&output);
 }

@@ -22,6 +22,11 @@ static void forget_freed(const volatile void *at, size_t bytes) {
 /* Only who has the baton may look; the layer's own blocks have no variables. */
 static bool is_in_run(void) { return own_seat && child.runs && run->many[PCT_VARIABLES]; }
 
+#pragma weak dlsym
+
+/* The next function of a name in the order of the libraries. */
+static void *next_function(const char *name) { return dlsym ? dlsym(RTLD_NEXT, name) : NULL; }
+
 #if SANITIZED
 
 int __sanitizer_install_malloc_and_free_hooks(void (*)(const volatile void *, size_t),
@@ -41,33 +46,27 @@ static void __attribute__((constructor)) watch_frees(void) {
 #elif !defined PCT_NO_FREE
 
 /* The program's free and realloc are these, which tell the layer before they call those that would
-   have been called: a sanitizer's, where the test is linked with one, or the next in the order of
-   the libraries. */
+   have been called: a sanitizer's, where the test is linked with one; those of the C library; or
+   where another library has malloc the next ones in the order of the libraries. Since dlsym and
+   dlerror free, too, it is asked only there. */
 void __interceptor_free(void *) __attribute__((weak));
 void *__interceptor_realloc(void *, size_t) __attribute__((weak));
+void *__libc_malloc(size_t) __attribute__((weak));
 void __libc_free(void *) __attribute__((weak));
 void *__libc_realloc(void *, size_t) __attribute__((weak));
-#pragma weak dlsym
-#pragma weak dladdr
 
 typedef void Free(void *);
 typedef void *Realloc(void *, size_t);
 
-/* The function behind a name, but for those in the midst of asking for one. */
-static void *next_function(const char *name, void *sanitizers, void *otherwise) {
-    static _Thread_local bool asks;
-    if (sanitizers) return sanitizers;
-    if (asks || !dlsym) return otherwise;
-    asks = true;
-    void *next = dlsym(RTLD_NEXT, name);
-    asks = false;
-    return next ? next : otherwise;
+static void *function_behind(const char *name, void *sanitizers, void *libcs) {
+    bool is_libcs = libcs && (void *)malloc == (void *)__libc_malloc;
+    return sanitizers ? sanitizers : is_libcs ? libcs : next_function(name);
 }
 
 void free(void *block) {
     static Free *next;
     if (!next)
-        next = (Free *)next_function("free", (void *)__interceptor_free, (void *)__libc_free);
+        next = (Free *)function_behind("free", (void *)__interceptor_free, (void *)__libc_free);
     if (block && is_in_run()) forget_freed(block, malloc_usable_size(block));
     if (next) next(block);
 }
@@ -77,8 +76,8 @@ void *realloc(void *block, size_t bytes) {
     bool is_seen = block && is_in_run();
     size_t had = is_seen ? malloc_usable_size(block) : 0;
     if (!next)
-        next = (Realloc *)next_function("realloc", (void *)__interceptor_realloc,
-                                        (void *)__libc_realloc);
+        next = (Realloc *)function_behind("realloc", (void *)__interceptor_realloc,
+                                          (void *)__libc_realloc);
     void *now = next ? next(block, bytes) : NULL;
     if (is_seen && now != block && (now || !bytes)) forget_freed(block, had);
     return now;

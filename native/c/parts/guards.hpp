@@ -133,36 +133,61 @@ template <class Mutex> class shared_lock : public detail::movable_lock<Mutex, de
     shared_lock(Mutex &mutex, Tag tag, place at = place::here()) : base(mutex, tag, at) {}
 };
 
-/* Takes its mutexes as std::lock does: it waits for one, tries the others, and lets all go where
-   one can't be taken. */
+namespace detail {
+/* Takes all or none: the one of this place, for which it waits, and then tries the others. */
+template <class... Mutexes, std::size_t... Places>
+bool take_from(std::size_t first, place at, std::index_sequence<Places...>,
+               const std::tuple<Mutexes &...> &held) {
+    const std::size_t many = sizeof...(Mutexes);
+    bool taken[sizeof...(Mutexes)] = {};
+    bool all = true;
+    for (std::size_t step = 0; step < many && all; step++) {
+        std::size_t which = (first + step) % many;
+        bool got = false;
+        ((Places == which ? (got = step == 0 ? (std::get<Places>(held).lock(at), true)
+                                             : std::get<Places>(held).try_lock(at))
+                          : false),
+         ...);
+        taken[which] = all = got;
+    }
+    if (!all) ((taken[Places] ? std::get<Places>(held).unlock(at) : void()), ...);
+    return all;
+}
+
+template <class... Mutexes> void lock_all(place at, const std::tuple<Mutexes &...> &held) {
+    std::size_t first = 0;
+    if constexpr (sizeof...(Mutexes) > 0)
+        while (!take_from(first, at, std::index_sequence_for<Mutexes...>{}, held)) first++;
+}
+} // namespace detail
+
+/* As std::lock: it waits for one, tries the others, and lets all go where one can't be taken. */
+template <class First, class Second, class... Others>
+void lock(First &first, Second &second, Others &...others) {
+    detail::lock_all(place::unknown(), std::tie(first, second, others...));
+}
+
+/* -1, or the place of the one that can't be taken: then none is. */
+template <class First, class... Others> int try_lock(First &first, Others &...others) {
+    if (!first.try_lock(place::unknown())) return 0;
+    int failed = -1;
+    if constexpr (sizeof...(Others) > 0) failed = pct::try_lock(others...);
+    if (failed < 0) return -1;
+    first.unlock(place::unknown());
+    return failed + 1;
+}
+
 template <class... Mutexes> class scoped_lock {
     std::tuple<Mutexes &...> held;
     place at;
 
-    template <std::size_t... Places> bool take(std::size_t first, std::index_sequence<Places...>) {
-        const std::size_t many = sizeof...(Mutexes);
-        bool taken[sizeof...(Mutexes)] = {};
-        bool all = true;
-        for (std::size_t step = 0; step < many && all; step++) {
-            std::size_t which = (first + step) % many;
-            bool got = false;
-            ((Places == which ? (got = step == 0 ? (std::get<Places>(held).lock(at), true)
-                                                 : std::get<Places>(held).try_lock(at))
-                              : false),
-             ...);
-            taken[which] = all = got;
-        }
-        if (!all) ((taken[Places] ? std::get<Places>(held).unlock(at) : void()), ...);
-        return all;
-    }
-
   public:
     explicit scoped_lock(Mutexes &...mutexes, place here = place::here())
         : held(mutexes...), at(here) {
-        std::size_t first = 0;
-        if constexpr (sizeof...(Mutexes) > 0)
-            while (!take(first, std::index_sequence_for<Mutexes...>{})) first++;
+        detail::lock_all(at, held);
     }
+    explicit scoped_lock(std::adopt_lock_t, Mutexes &...mutexes, place here = place::here())
+        : held(mutexes...), at(here) {}
     ~scoped_lock() {
         std::apply([this](auto &...mutexes) { (mutexes.unlock(at), ...); }, held);
     }
@@ -170,6 +195,7 @@ template <class... Mutexes> class scoped_lock {
     scoped_lock &operator=(const scoped_lock &) = delete;
 };
 template <class... Mutexes> scoped_lock(Mutexes &...) -> scoped_lock<Mutexes...>;
+template <class... Mutexes> scoped_lock(std::adopt_lock_t, Mutexes &...) -> scoped_lock<Mutexes...>;
 
 } // namespace pct
 #endif

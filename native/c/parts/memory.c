@@ -31,14 +31,17 @@ static int64_t changed_by(const Late *late) {
 }
 
 static void read_memory(Late *late) {
-    late->old = 0;
+    late->old = late->new = 0;
+    late->is_forbidden = is_forbidden(late->at, late->form & 15);
+    if (late->is_forbidden) return;
     memcpy(&late->old, late->at, late->form & 15);
     late->old = normal(late->old, late->form);
     late->new = changed_by(late);
 }
 
 static void write_memory(const Late *late) {
-    if (late->new != late->old) memcpy(late->at, &late->new, late->form & 15);
+    if (late->new != late->old && !late->is_forbidden)
+        memcpy(late->at, &late->new, late->form & 15);
 }
 
 static bool is_access(const Late *late) {
@@ -79,6 +82,7 @@ static void look(Late *late) {
     }
     if (!is_access(late)) return;
     read_memory(late);
+    if (late->is_forbidden) *ask = (PctAsk)PCT_ASK(PCT_ASK_YIELD, 0, 0, 0, 0);
     if (ask->kind == PCT_ASK_YIELD) return;
     bool is_sum = late->access == PCT_ADD && !(form & PCT_POINTER) &&
                   !__builtin_add_overflow(late->old, late->x, &sum) && sum == late->new;

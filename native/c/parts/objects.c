@@ -7,10 +7,18 @@ int pct_object_at(PctKind kind, PctObject *object, PctAskKind ask, PctPlace plac
     return ask == PCT_ASK_TRY_DOWN ? EAGAIN : EBUSY;
 }
 
-int pct_mutex_init(pct_mutex_t *mutex, int kind) {
+int(pct_mutex_init)(pct_mutex_t *mutex, int kind) {
     if (kind < PCT_MUTEX_NORMAL || kind > PCT_MUTEX_ERRORCHECK) return EINVAL;
     *mutex = (pct_mutex_t){ PCT_OBJECT(0), (uint32_t)kind, 0, 0 };
     return 0;
+}
+
+int pct_mutex_init_by(pct_mutex_t *mutex, const pthread_mutexattr_t *attributes) {
+    int kind = PTHREAD_MUTEX_NORMAL;
+    if (attributes && pthread_mutexattr_gettype(attributes, &kind) != 0) return EINVAL;
+    if (kind == PTHREAD_MUTEX_RECURSIVE) return (pct_mutex_init)(mutex, PCT_MUTEX_RECURSIVE);
+    bool is_checked = kind == PTHREAD_MUTEX_ERRORCHECK;
+    return (pct_mutex_init)(mutex, is_checked ? PCT_MUTEX_ERRORCHECK : PCT_MUTEX_NORMAL);
 }
 
 int pct_mutex_destroy(pct_mutex_t *mutex) {
@@ -77,10 +85,18 @@ int pct_barrier_wait_at(pct_barrier_t *barrier, PctPlace place) {
     return step(PCT_ASK_LEAVE, number, 0, place) ? PCT_BARRIER_SERIAL_THREAD : 0;
 }
 
-int pct_once_at(pct_once_t *once, void (*function)(void), PctPlace place) {
+bool pct_once_enter_at(pct_once_t *once, PctPlace place) {
     if (!is_of_run(&once->mutex.object)) once->is_done = false;
     pct_mutex_at(&once->mutex, PCT_ASK_LOCK, place);
-    if (!once->is_done) function();
-    once->is_done = true;
+    return !once->is_done;
+}
+
+int pct_once_leave_at(pct_once_t *once, bool is_done, PctPlace place) {
+    once->is_done = is_done;
     return pct_mutex_at(&once->mutex, PCT_ASK_UNLOCK, place);
+}
+
+int pct_once_at(pct_once_t *once, void (*function)(void), PctPlace place) {
+    if (pct_once_enter_at(once, place)) function();
+    return pct_once_leave_at(once, true, place);
 }

@@ -1,5 +1,7 @@
 /* Part of pct_test.c: a replay. */
 
+static char *replayed; /* the text of the trace */
+
 /* Reads the sites of the trace that is to be replayed: the test that it is of, where no other is
    asked for, the names of its run, and the places. The names and places stand in what it gives. */
 static char *read_sites(void) {
@@ -19,7 +21,7 @@ static char *read_sites(void) {
         sscanf(line, "%u %4s %d %n", &number, how, &at, &file);
         if (number < 1 || number > MOST_LINE || !file)
             sentence("%s: `%s` is neither a name nor a place", name, line);
-        shared->places[number] = (Place){ line + file, at, strcmp(how, "near") == 0 };
+        shared->places[number] = (Place){ kept_text(line + file), at, strcmp(how, "near") == 0 };
     }
     return whole;
 }
@@ -43,12 +45,9 @@ static Plan read_trace(const char *whole) {
     return plan;
 }
 
-/* Makes the run of a trace file again, and prints its steps; whether it fails. */
-static bool replay(void) {
-    char *whole = read_file(test.replay);
-    Plan plan = read_trace(whole);
-    written = steps_in(whole);
-    bool has_failed = make_child(plan), departs = run->outcome.kind == PCT_DEPARTED;
+/* Prints how a replay ended, and the verdict of its trace; whether it failed. */
+static bool tell_replay(void) {
+    bool departs = run->outcome.kind == PCT_DEPARTED;
     if (departs || run->end == MORE_THREADS) {
         printf("the run departs from the trace at step %u: %s can't go there, or it goes on past "
                "the trace\n",
@@ -58,6 +57,48 @@ static bool replay(void) {
     printf("verdict ");
     print_verdict();
     tell_end();
-    printf("the trace has the %s", strstr(whole, "\nverdict ") + 1);
-    return has_failed;
+    printf("the trace has the %s", strstr(replayed, "\nverdict ") + 1);
+    return run->end == DIED || run->outcome.kind != PCT_PASSED;
+}
+
+/* Whether a debugger has this process. */
+static bool is_traced(void) {
+    char line[200];
+    int tracer = 0;
+    FILE *status = fopen("/proc/self/status", "r");
+    while (status && fgets(line, sizeof line, status)) sscanf(line, "TracerPid: %d", &tracer);
+    if (status) fclose(status);
+    return tracer != 0;
+}
+
+/* What follows a run in this process. */
+static void __attribute__((noreturn)) end_here(void) {
+    child.ends = NULL;
+    if (run->end == SENTENCE || run->end == LOST) end_check(run->end, "%s", run->told);
+    if (run->end == DIED) died("");
+    bool has_failed = tell_replay();
+    if (fflush(stdout) != 0) lost("standard output");
+    syscall(SYS_exit_group, has_failed);
+    __builtin_unreachable();
+}
+
+/* Makes the run in this process, for a debugger to see, and ends the process. */
+static void __attribute__((noreturn)) run_here(Plan plan) {
+    run->plan = plan;
+    run->end = GOES;
+    be_ready_to_run();
+    child.ends = end_here;
+    make_run();
+    leave(OUTCOME);
+}
+
+/* Makes the run of a trace file again, and prints its steps; whether it fails. */
+static bool replay(void) {
+    replayed = read_file(test.replay);
+    Plan plan = read_trace(replayed);
+    written = strdup(steps_in(replayed)); /* as lines, it is cut there */
+    if (!written) sentence("no memory");
+    if (is_traced()) run_here(plan);
+    make_child(plan);
+    return tell_replay();
 }

@@ -1,5 +1,7 @@
 /* Part of pct_test.c: the runner: children, and a search over seeds. */
 
+static uint64_t children; /* that were made */
+
 static const char *cause_of(int status, bool is_hung) {
     static const char *const SIGNALS[] = {
         [SIGSEGV] = "SIGSEGV", [SIGABRT] = "SIGABRT", [SIGBUS] = "SIGBUS",   [SIGFPE] = "SIGFPE",
@@ -7,7 +9,7 @@ static const char *cause_of(int status, bool is_hung) {
     };
     static char cause[80];
     uint32_t signal = WIFSIGNALED(status) ? (uint32_t)WTERMSIG(status) : 0;
-    if (shared->is_sanitized) return "a sanitizer's report";
+    if (shared->is_sanitized) return *shared->summary ? shared->summary : "a sanitizer's report";
     if (!is_hung && signal < LENGTH(SIGNALS) && SIGNALS[signal]) return SIGNALS[signal];
     snprintf(cause, sizeof cause, signal ? "signal %u" : "exit(%u)",
              signal ? signal : (uint32_t)WEXITSTATUS(status));
@@ -19,7 +21,8 @@ static const char *cause_of(int status, bool is_hung) {
    assertion which fails in the last line of who had the baton. */
 static void died(const char *cause) {
     uint32_t thread = run->baton;
-    uint32_t line = number_of_place(at_itself(run->seats[thread].last));
+    uint32_t line = run->seats[thread].line;
+    if (!line) line = number_of_place(test.place.file, test.place.line, false);
     if (run->end == GOES)
         snprintf(run->told, sizeof run->told, "%s after step %u, %s, %s", cause, run->steps,
                  who(thread), line_text(line));
@@ -30,33 +33,46 @@ static void died(const char *cause) {
     write_all_traces();
 }
 
-/* Makes a child, whose runs go by the plan, and waits for its end; what became of the last run
-   stands there. Whether that has failed. A child that makes no step for too long is killed. */
-static bool make_child(Plan plan) {
+/* Waits for the end of a child: its status. One that makes no step for too long is killed. */
+static int await_child(pid_t pid, bool *is_hung) {
     uint64_t asks = shared->asks, waited = 0; /* milliseconds */
     int status = 0;
-    bool is_hung = false;
-    run->plan = plan;
-    run->end = GOES;
-    shared->is_sanitized = false;
-    fflush(NULL);
-    pid_t pid = fork();
-    if (pid < 0) sentence("there is no child");
-    if (pid == 0) be_child();
     for (; waitpid(pid, &status, WNOHANG) == 0; waited++) {
         usleep(1000);
         if (asks != shared->asks) waited = 0;
         asks = shared->asks;
-        is_hung = is_hung || waited >= test.patience * 1000;
-        if (is_hung) kill(pid, SIGKILL);
+        if (waited == SILENT && !*is_hung) tell_silence(pid);
+        *is_hung = *is_hung || waited >= test.patience * 1000;
+        if (*is_hung) kill(pid, SIGKILL);
     }
+    return status;
+}
+
+/* Makes a child, whose runs go by the plan; what became of the last run stands there. Whether that
+   has failed. */
+static bool make_child(Plan plan) {
+    const uint64_t generation = ++children * 0x9e3779b97f4a7c15u;
+    uint32_t left = shared->left;
+    bool is_hung = false;
+    run->plan = plan;
+    run->end = GOES;
+    shared->is_sanitized = false;
+    *shared->summary = 0;
+    shared->before = shared->behind = generation;
+    fflush(NULL);
+    runner = getpid();
+    pid_t pid = fork();
+    if (pid < 0) sentence("there is no child");
+    if (pid == 0) be_child();
+    int status = await_child(pid, &is_hung);
+    check_left(generation, left);
     const char *cause = cause_of(status, is_hung);
+    if (run->end == SENTENCE || run->end == LOST) end_check(run->end, "%s", run->told);
     if (run->end == GOES || run->end == DIED)
         died(cause);
     else if (status != 0)
         sentence("%s between two runs, after that of seed %llu", cause,
                  (unsigned long long)run->plan.seed);
-    if (run->end == SENTENCE) sentence("%s", run->told);
     return run->end == DIED || run->outcome.kind != PCT_PASSED;
 }
 
@@ -93,8 +109,9 @@ static bool make_declared(void) {
 static uint32_t search_seeds(uint32_t threads) {
     uint32_t failed = 0;
     uint64_t end = UINT64_MAX;
-    shared->threads = threads;
-    shared->left = shared->all;
+    search.first = search.threads ? next_of_search() : 0;
+    search.threads = threads;
+    shared->left = search.all;
     kept.end = GOES;
     while (shared->left > 0 && (test.campaign || (failed < MOST_FAILING && milliseconds() < end))) {
         bool has_failed = make_child((Plan){ .policy = BY_SEED });

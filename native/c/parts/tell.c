@@ -1,8 +1,26 @@
 /* Part of pct_test.c: what is told of a run. */
 
+/* The verdict, whose numbers are lines: of another file's or a near place it is that place. */
+static void print_verdict_words(void) {
+    static char verdict[64 * (PCT_MOST_NAME + 8)];
+    char *rest = verdict, *word;
+    snprintf(verdict, sizeof verdict, "%s", verdict_text());
+    for (const char *before = ""; (word = strsep(&rest, " ")); before = " ") {
+        char *end;
+        unsigned long number = strtoul(word, &end, 10);
+        bool is_line = end > word && !*end && number > 0 && number <= MOST_LINE;
+        const Place *place = &shared->places[is_line ? number : 0];
+        bool is_other = is_line && place->file && !is_own_line(place, (int)number);
+        printf("%s%s", before, is_other ? line_text((uint32_t)number) : word);
+    }
+}
+
 static void print_verdict(void) {
     uint64_t blocked = run->outcome.kind == PCT_STUCK ? run->outcome.blocked : 0;
-    printf("%s", run->end == MORE_THREADS ? "a further thread is started" : verdict_text());
+    if (run->end == MORE_THREADS)
+        printf("a further thread is started");
+    else
+        print_verdict_words();
     if (run->end == DIED) printf(": %s", run->told);
     if (blocked && !(blocked & ~run->waiting))
         printf(": a livelock, all wait in pct_yield for a change");
@@ -44,7 +62,9 @@ static void print_lanes(void) {
     for (uint32_t i = 0; i < run->threads; i++) printf("  %-*s", width - 2, who(i));
     printf("  place\n");
     for (uint32_t i = 0; i < end; i++) print_lane(i, width);
-    printf("verdict %s\n", verdict_text());
+    printf("verdict ");
+    print_verdict_words();
+    putchar('\n');
 }
 
 /* Where a run is stuck who waits for what, and where it is cut where its last steps stand. */
@@ -62,9 +82,9 @@ static void tell_end(void) {
 /* The report that `pct campaign` writes. */
 static void print_report(void) {
     uint32_t depth = (uint32_t)test.depth, limit = (uint32_t)test.limit;
-    const PctFrame frame = { shared->threads, shared->steps, depth, limit };
+    const PctFrame frame = { search.threads, search.steps, depth, limit };
     const char *names = names_of_run();
-    while (!is_written(pct_text_report(BYTES(names), &frame, shared->rows, shared->all, ROOM)))
+    while (!is_written(pct_text_report(BYTES(names), &frame, shared->rows, search.all, ROOM)))
         continue;
     fputs(text, stdout);
 }

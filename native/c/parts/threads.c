@@ -29,6 +29,7 @@ static void *thread_body(void *number) {
     pthread_setspecific(at_end, (void *)(uintptr_t)(PTHREAD_DESTRUCTOR_ITERATIONS - 1));
     wait_at(&child.goes[me]);
     own_seat = me + 1;
+    seat->task = (pid_t)syscall(SYS_gettid);
     forget_stack();
     if (me >= test.declared)
         seat->value = seat->function(seat->argument);
