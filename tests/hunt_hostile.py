@@ -3,11 +3,13 @@ and threads, foreign text, FIFOs, outputs onto inputs, hosts."""
 
 import json
 import os
+import random
 import re
 import resource
 import signal
 import subprocess
 import sys
+import time
 
 from hunt_calls import HUNT, PCT, TOP, at, environment, hunt, keep, read
 
@@ -235,4 +237,79 @@ def onto_inputs(room):
     yield "the inputs stand", read(script) == read(PASSES) and read(document) == read("tests", "page", "rust_pool.json")
 
 
-GROUPS = [statuses, limits, foreign_text, odd_files]
+# Machines, and signals.
+
+
+def machines(room):
+    """--sshlogin takes hosts, users, ports and numbers of jobs, and no command: none is run."""
+    made = os.path.join(room, "made")
+    odd = [f"touch {made};", f"$(touch {made})", f"`touch {made}`", f"ssh -oProxyCommand=touch\\ {made} x", "a b", "",
+           ":,", "-oProxyCommand=x", "8/", "x/:", "host:", "host:x", "@host", "a\n:", "99999/host", "@group/host", ".."]
+    for given in odd:
+        done = hunt(PASSES, *FEW, "--sshlogin", given)
+        says = "is no machine" if given[:1] != "-" else "expected one argument"
+        yield f"--sshlogin {given!a} {done}", is_line(done, 2, says)
+    yield "no command is run", not os.path.exists(made)
+    sys.path.insert(0, at("tools"))
+    from pcthunt.machines import check_machines
+    for given in (":", "8/:", "host", "8/user@host:22", ":,2/one,user@two.example.org:2222", "[::1]:22", "10.0.0.1"):
+        check_machines(given)
+        yield f"--sshlogin {given}", True
+
+
+def lasting(marker):
+    """The processes that have the marker in their environment."""
+    found = []
+    for number in filter(str.isdecimal, os.listdir("/proc")):
+        try:
+            with open(f"/proc/{number}/environ", "rb") as file:
+                has_marker = marker.encode() in file.read()
+            with open(f"/proc/{number}/stat", encoding="utf-8", errors="replace") as file:
+                is_dead = file.read().rpartition(")")[2].split()[0] == "Z"
+        except OSError:
+            continue
+        found += [number] if has_marker and not is_dead else []
+    return found
+
+
+def moments(room):
+    """Signals at random moments of a hunt, seeded, start-up too and repeated: a status that is documented, one line
+    or a report with how to go on, nothing left; after SIGKILL no process goes on."""
+    drawn = random.Random(76)
+    many = int(os.environ.get("MOMENTS", "40"))
+    for number in range(many):
+        by = [signal.SIGINT, signal.SIGTERM, signal.SIGKILL][number % 3]
+        own = os.path.join(room, f"moment{number}")
+        os.mkdir(own)
+        after = drawn.random() ** 2 * 1.5
+        status, out, said, alive = at_moment(own, by, after, drawn.randrange(1, 4))
+        name = f"moment {number}: {by.name} after {after:.3f} s"
+        if by == signal.SIGKILL:
+            yield f"{name}: nothing goes on {alive}", not alive
+            continue
+        begun = status in (1, 128 + by) and "Traceback" not in said
+        goes_on = status == 1 or "goes on by" in out or "begin again" in said
+        before = status == -by or "Traceback" in said and "File \"/work" not in said and "<frozen" in said
+        is_left = [it for it in os.listdir(own) if it != "kept"]
+        yield f"{name}: {status} {said[-300:]} {is_left}", (begun and goes_on or before) and not is_left and not alive
+
+
+def at_moment(own, by, after, times):
+    """A hunt that gets a signal after so many seconds, so many times: status, output, error output, what goes on."""
+    marker = f"MOMENT={own}"
+    words = [*HUNT, SCRIPT, "--seeds", "100000", "--depth", "3", "--quiet", "--html", os.path.join(own, "kept")]
+    with subprocess.Popen(words, stdout=subprocess.PIPE, stderr=subprocess.PIPE, text=True, cwd=TOP,
+                          env=environment(TMPDIR=own, MOMENT=own),
+                          preexec_fn=lambda: signal.signal(signal.SIGINT, signal.SIG_DFL)) as call:
+        time.sleep(after)
+        for _ in range(times):
+            call.send_signal(by)
+            time.sleep(0.01)
+        out, said = call.communicate(timeout=300)
+    end = time.monotonic() + (10 if by == signal.SIGKILL else 1)
+    while (alive := lasting(marker)) and time.monotonic() < end:
+        time.sleep(0.1)
+    return call.returncode, out, said, alive
+
+
+GROUPS = [machines, moments, statuses, limits, foreign_text, odd_files]

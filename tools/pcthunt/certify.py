@@ -13,7 +13,7 @@ from pctmodel.directive import Directive, MOST_EVENTS, MOST_THREADS, directed_ru
 from pctmodel.run import Event
 from pctmodel.script import Script
 
-MOST_MODEL_STEPS = 3_000_000  # of the plain model, by which most directives are refuted
+MOST_MODEL_STEPS = 400_000  # of the plain model, by which most directives are refuted: some ten seconds
 
 Moment = tuple[str, int]
 

@@ -142,7 +142,7 @@ class Session:
         return hunt.run(self.crew, self.parts(hunt))
 
     def parts(self, hunt: Hunt) -> Parts:
-        if self.settings.sshlogin:
+        if self.settings.sshlogin is not None:
             from pcthunt.machines import MachineParts
             return MachineParts(self.program, hunt.source.forms[0].path, self.crew, self.settings.sshlogin)
         return Parts(self.program, hunt.source.forms[0].path, self.crew)

@@ -14,8 +14,11 @@ sys.dont_write_bytecode = True
 if __name__ == "__main__":
     sys.path[0] = os.path.dirname(os.path.dirname(os.path.realpath(__file__)))
 
-from pcthunt.output import cut_line
 from pcthunt.explain import sentences_of, sentences_of_deal
+from pcthunt.inputs import read
+from pcthunt.output import DONE, USAGE, Refused, cut_line, ends_well, leave
+from pcthunt.output import put as write
+from pcthunt.schema import NoDocument, check_document, read_json
 from pcthunt.states import KINDS, FIRST_VALUES, Json, Listed, ask_words, changed, listed, why
 from pctmodel.directive import Directive
 from pctmodel.locks import Nesting, lock_order
@@ -277,20 +280,17 @@ def put(document: Json) -> str:
 
 def main() -> int:
     if len(sys.argv) != 2 or sys.argv[1].startswith("--"):
-        print("usage: document.py FIRST.json", file=sys.stderr)
-        return 2
+        raise Refused(USAGE, "usage: document.py FIRST.json")
     try:
-        with open(sys.argv[1], encoding="utf-8") as file:
-            document = json.load(file)
-        sys.stdout.write(put(complete(document)))
-    except OSError as error:
-        print(f"document: {sys.argv[1]}: {error.strerror}", file=sys.stderr)
-        return 6
-    except (ValueError, KeyError, TypeError) as error:
-        print(f"document: {sys.argv[1]} is no first part of a document: {error!r}", file=sys.stderr)
-        return 2
-    return 0
+        document = read_json(read(sys.argv[1]).decode())
+        check_document(document)
+        write(put(complete(document)))
+    except (NoDocument, UnicodeDecodeError) as error:
+        raise Refused(USAGE, f"{sys.argv[1]} is no first part of a document: {error}") from None
+    except (ValueError, KeyError, TypeError, AttributeError, AssertionError, IndexError) as error:
+        raise Refused(USAGE, f"{sys.argv[1]}: its run can't be made again: {type(error).__name__} {error}") from None
+    return DONE
 
 
 if __name__ == "__main__":
-    sys.exit(main())
+    leave(ends_well("document", main))

@@ -6,13 +6,15 @@ import base64
 import gzip
 import math
 import os
+import re
 import selectors
 import shutil
+import signal
 import subprocess
 from collections.abc import Iterator
 
 from pcthunt.output import USAGE, Refused
-from pcthunt.program import Program
+from pcthunt.program import Program, dies_with_us
 from pcthunt.reports import SEEDS, NoReport, Report, merged, reports_of
 from pcthunt.rounds import BATCH, MOST_OF_A_PART, Crew, Parts, Round
 
@@ -20,6 +22,19 @@ MOST_PARTS, MOST_TRIES = 64, 4
 MOST_SENT = 90000  # characters of a script, packed, that go along with a command
 NEEDED = ("--sshlogin needs GNU parallel, which isn't here (Debian's package is called parallel); without --sshlogin "
           "the parts are made on this machine alone")
+
+
+# Of GNU parallel's list a machine: how many jobs, and `:` for this one, or a user, a host and a port.
+MACHINE = re.compile(r"([0-9]{1,4}/)?(:|([A-Za-z0-9_][A-Za-z0-9_.-]*@)?([A-Za-z0-9][A-Za-z0-9._-]*|\[[0-9A-Fa-f:.]+\])"
+                     r"(:[0-9]{1,5})?)")
+
+
+def check_machines(given: str) -> None:
+    """Refused where a part of the list is none of the form of a machine: GNU parallel would run it as a command."""
+    for machine in given.split(","):
+        if not MACHINE.fullmatch(machine):
+            raise Refused(USAGE, f"--sshlogin: '{machine}' is no machine: wanted is a list such as :,8/user@host:22, "
+                                 "of jobs, user, host and port, without commands")
 
 
 def is_gnu_parallel() -> bool:
@@ -36,6 +51,7 @@ class MachineParts(Parts):
     def __init__(self, program: Program, script: str, crew: Crew, sshlogin: str) -> None:
         super().__init__(program, script, crew)
         self.sshlogin = sshlogin
+        check_machines(sshlogin)
         if not is_gnu_parallel():
             raise Refused(USAGE, NEEDED)
 
@@ -80,7 +96,8 @@ class MachineParts(Parts):
         """The reports of the parts that come back, and then what was said."""
         path = os.pathsep.join([os.path.dirname(os.path.realpath(self.program.words[-1])), os.environ.get("PATH", "")])
         call = subprocess.Popen(self.command(round_), stdin=subprocess.PIPE, stdout=subprocess.PIPE,
-                                stderr=subprocess.PIPE, env={**os.environ, "PATH": path}, start_new_session=True)
+                                stderr=subprocess.PIPE, env={**os.environ, "PATH": path}, start_new_session=True,
+                                preexec_fn=dies_with_us(signal.SIGINT))
         assert call.stdin and call.stdout and call.stderr
         try:
             call.stdin.write("".join(f"{first} {count}\n" for first, count in parts.items()).encode())

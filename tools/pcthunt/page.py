@@ -24,6 +24,7 @@ if __name__ == "__main__":
 from pcthunt.document import complete, without_texts
 from pcthunt.inputs import check_output, read
 from pcthunt.output import BAD_TRACE, DONE, USAGE, Refused, ends_well, keep, leave, put
+from pcthunt.schema import NoDocument, check_document, read_json
 
 Json = dict[str, Any]
 WEB = os.path.join(os.path.dirname(os.path.realpath(__file__)), "web")
@@ -31,10 +32,6 @@ SCRIPTS = ["state.js", "words.js", "dom.js", "marks.js", "lanes.js", "story.js",
 MOST_UNPACKED = 2_000_000  # characters of a document that stands in the page as it is
 # What could end the element that has the JSON, or a line of it, and what UTF-8 has no form for.
 UNSAFE = re.compile("[<>&\u2028\u2029\ud800-\udfff]")
-
-
-class NoDocument(Exception):
-    """What was read is no document of the form that the page shows."""
 
 
 def part(name: str) -> str:
@@ -98,14 +95,13 @@ def whole(document: Json) -> Json:
 
 
 def document_in(text: str) -> Json:
-    """The document of a text of JSON."""
+    """The document of a text of JSON. Raises NoDocument, with the path of the member that isn't of its form."""
+    document = read_json(text)
+    check_document(document)
     try:
-        document = json.loads(text)
-        if not isinstance(document, dict) or document.get("document") != 1:
-            raise NoDocument("it has no member \"document\" of 1")
         return whole(document)
-    except (ValueError, KeyError, TypeError, AttributeError, IndexError, RecursionError) as error:
-        raise NoDocument(f"{type(error).__name__}: {error}") from None
+    except (ValueError, KeyError, TypeError, AttributeError, AssertionError, IndexError) as error:
+        raise NoDocument(f"its run can't be made again: {type(error).__name__} {error}") from None
 
 
 def read_document(name: str) -> Json:
