@@ -312,4 +312,69 @@ def at_moment(own, by, after, times):
     return call.returncode, out, said, alive
 
 
-GROUPS = [machines, moments, statuses, limits, foreign_text, odd_files]
+# Documents.
+
+
+def members_of(form, found):
+    """All members that a form names, with those within them."""
+    for name, check in {**form.needed, **form.other}.items():
+        found.add(name)
+        for inner in parts_of(check):
+            if inner not in found:
+                found.add(inner)
+                members_of(inner, found)
+
+
+def parts_of(check):
+    """The forms in a check: itself, or those that its lists and objects have."""
+    if hasattr(check, "needed"):
+        return [check]
+    cells = [cell.cell_contents for cell in getattr(check, "__closure__", None) or ()]
+    return [part for cell in cells if callable(cell) for part in parts_of(cell)]
+
+
+def forms_of_documents(room):
+    """The schema has the members that docs/document.md lists, and a document of another form is refused by the path."""
+    sys.path.insert(0, at("tools"))
+    from pcthunt import schema
+    schema.Form.__hash__ = lambda form: id(form)
+    found = set()
+    members_of(schema.DOCUMENT, found)
+    named = {it for it in found if isinstance(it, str)}
+    page = read("docs", "document.md")
+    told = set(re.findall(r"[`{ \"]([a-z]+)(?=[`},¹ \"])", " ".join(re.findall(r"`[^`]*`", page))))
+    yield f"document.md lists each member of the schema {named - told}", named <= told
+    of_first = set(re.findall(r"`([a-z]+)`¹", page))
+    forms = (schema.DOCUMENT, schema.HEADING, schema.RUN, schema.STEP)
+    needed = {name for form in forms for name in form.needed}
+    yield f"what belongs to the first part is needed {of_first ^ needed}", of_first == needed
+    whole = json.loads(read("tests", "page", "rust_pool.json"))
+    step = whole["headings"][0]["run"]["steps"][3]
+    for path, change in {
+            "title": lambda it: it.pop("title"), "sources[0].text": lambda it: it["sources"][0].update(text=7),
+            "headings[0].run.steps[3].ask": lambda it: steps(it)[3].update(ask="lock nowhere"),
+            "headings[0].run.steps[0].line": lambda it: steps(it)[0].update(line="4"),
+            "headings[0].run.order": lambda it: it["headings"][0]["run"]["order"].pop(),
+            "deal.vars[1].name": lambda it: it["deal"]["vars"][1].update(name=None),
+            "headings[0].again[0].says": lambda it: it["headings"][0]["again"][0].update(says=[]),
+            "the number NaN": lambda it: it.update(odd=float("nan")),
+            "the number Infinity": lambda it: it.update(odd=float("inf"))}.items():
+        changed = json.loads(json.dumps(whole))
+        change(changed)
+        done = hunt("--page", keep(room, "changed.json", json.dumps(changed)))
+        yield f"{path}: {done[0]} {done[2]}", is_line(done, 4, path) and done[1] == ""
+    long = json.loads(json.dumps(whole))
+    long["sources"][0]["text"] = "\n" * 4 + "x" * 1_000_000 + "\n"
+    for it in steps(long):
+        it["line"] = 5
+    done = subprocess.run([sys.executable, at("tools", "pcthunt", "document.py"),
+                           keep(room, "long.json", json.dumps(long))], capture_output=True, text=True, check=False)
+    yield f"a line of a megabyte is there once {len(done.stdout)}", done.returncode == 0 and len(
+        done.stdout) < 1_500_000 and step["ask"] == "read is_closed"
+
+
+def steps(document):
+    return document["headings"][0]["run"]["steps"]
+
+
+GROUPS = [forms_of_documents, machines, moments, statuses, limits, foreign_text, odd_files]
