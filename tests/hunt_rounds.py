@@ -8,7 +8,7 @@ import re
 import subprocess
 import time
 
-from hunt_calls import HUNT, PCT, TOP, at, environment, hunt
+from hunt_calls import HUNT, PCT, TOP, at, environment, hunt, keep
 
 
 def rounds(room):
@@ -52,6 +52,62 @@ def timed(_):
     yield "how it goes on", f"--time 2 --from {drawn + 1}\n" in text
     document = json.loads(hunt("examples/models/srcu.pct", "--quiet", "--certify", "0", "--json")[1])
     yield "the document's rounds", [it["depth"] for it in document["rounds"]] == list(range(1, 6))
+
+
+SPIN = """script 1
+var ready = 0
+thread Waiter
+  while !r0
+    read r0 ready
+  end
+end
+thread Setter
+  write ready 1
+end
+"""
+GUARDED = """script 1
+var open = 0
+var data = 0
+# hunt: atomic open
+thread Reader
+  read r0 open
+  if r0
+    read r1 data
+    assert r1 == 7
+  end
+end
+thread Writer
+  write open 1
+  write data 7
+end
+"""
+
+
+def causes(room):
+    """What is said of a failure follows its branches, is at most seven sentences, and has no race that is meant; a spin
+    is one line; and runs that are stuck for one reason are one failure."""
+    keep(room, "guarded.pct", GUARDED)
+    status, text, _ = hunt(os.path.join(room, "guarded.pct"), "--quiet", "--seeds", "200", "--depth", "2")
+    told = re.sub(r"\n     +", " ", text)
+    yield "the branch", status == 1 and "- line 7 tested r0 = 1: Reader read open = 1 at step " in told and \
+        "as Writer left it at step 1 (line 13: write open 1)" in told
+    yield "the passing run", "; in the passing run it was 7\n" in told
+    keep(room, "plain.pct", GUARDED.replace("# hunt: atomic open\n", ""))
+    plain = hunt(os.path.join(room, "plain.pct"), "--quiet", "--seeds", "200", "--depth", "2")[1]
+    yield "no race that is meant", "a data race on open" in plain and "a data race on" not in told
+    keep(room, "spin.pct", SPIN)
+    words = ["--quiet", "--seeds", "200", "--depth", "1", "--limit", "500"]
+    status, text, _ = hunt(os.path.join(room, "spin.pct"), *words)
+    told = re.sub(r"\n     +", " ", text)
+    yield "a spin is one line", "Waiter looked at ready 500 times from step 1 on (line 5: read r0 ready), and nobody " \
+        "else went who could change it" in told
+    yield "its rows are few", status == 1 and text.count("read ready = 0") < 5
+    for name in ("channel", "futex", "mcs"):
+        words = [f"examples/models/{name}.pct", "--quiet", "--seeds", "2000", "--certify", "0", "--json"]
+        document = json.loads(hunt(*words)[1])
+        found = document["headings"]
+        yield f"{name}: one failure", len(found) == 1 and len(found[0]["verdicts"]) > 1
+        yield f"{name}: at most seven sentences", 0 < len(found[0]["told"]) <= 7
 
 
 def campaigns(script, document):

@@ -31,9 +31,10 @@ HELP = """Looks for the orders of steps in which a script goes wrong, and tells 
 
 A hunt has ten seconds, and two once something failed. It runs all choices of each depth that they suffice for, and
 else seeds in turns that grow. With --seeds it has rounds: 200 seeds at depth 1, and then so many at each of the depths
-2, 3 and 4; the same words then give the same text anywhere. Failures that are one bug come under one heading, each with its shortest run, where its values came from, its data races, what it needs,
-and a directive that certifies it. SCRIPT may be a folder: then each of its scripts has to come to what its line
-'# hunt: passes', '# hunt: fails' or '# hunt: VERDICT' says, or NAME.expect beside it; to pass where there is none."""
+2, 3 and 4; the same words then give the same text anywhere. Failures that are one bug come under one heading, each with
+its shortest run, where its values came from, its data races, what it needs, and a directive that certifies it. SCRIPT
+may be a folder: then each of its scripts has to come to what its line '# hunt: passes', '# hunt: fails' or
+'# hunt: VERDICT' says, or NAME.expect beside it; to pass where there is none."""
 STATUS = """The status is 0 where nothing failed (of a folder: where each script came to what it should), 1 where
 something did, 2 for words that aren't taken, 3 for a script that is refused, 4 for a document or a trace and 5 for a
 directive that is, 6 and 7 for files and output that can't be read or written, 8 where there is no memory or no thread

@@ -12,12 +12,22 @@ from pctmodel.script import Script
 from pctmodel.trace import threads_of_verdict
 
 MOST_EXPECTED = 4096  # bytes, of which no verdict has so many
+ATOMIC = "atomic "
 LINE = re.compile(r"^[ \t]*#[ \t]*hunt:[ \t]*(.*?)[ \t\r]*$", re.M)
+
+
+def is_atomic(name: str, text: str) -> bool:
+    """Whether a line `# hunt: atomic NAME ..` says of the variable, or of the array that it is in, that its races are
+    meant."""
+    names = {name, re.sub(r"_[0-9]+$", "", name)}
+    return any(names & set(match.group(1).split()[1:]) for match in LINE.finditer(text)
+               if match.group(1).startswith(ATOMIC))
 
 
 def expectation(path: str, text: str) -> tuple[str, str]:
     """What the script at the path should come to, and where that stands."""
-    found = [(match.group(1), f"line {text.count(chr(10), 0, match.start()) + 1}") for match in LINE.finditer(text)]
+    found = [(match.group(1), f"line {text.count(chr(10), 0, match.start()) + 1}") for match in LINE.finditer(text)
+             if not match.group(1).startswith(ATOMIC)]
     beside = os.path.splitext(path)[0] + ".expect"
     if os.path.exists(beside):
         found.append((read(beside, MOST_EXPECTED).decode(errors="replace").strip(), beside))

@@ -2,6 +2,7 @@
 
 from __future__ import annotations
 
+import itertools
 from collections.abc import Iterator
 
 from pcthunt.states import Json, listed
@@ -9,7 +10,8 @@ from pcthunt.watch import CHANGES, Watched, watched, watched_events
 from pctmodel.run import Event
 from pctmodel.script import Script, Statement
 
-MOST_SENTENCES = 12
+MOST_SENTENCES = 7  # the nearest ones
+MOST_LOOKS = 8  # equal steps in a row, of which more are a spin
 WAKES = ("signal", "broadcast")
 
 
@@ -29,11 +31,57 @@ class Story:
         self.told: list[str] = []
         self.told_steps: set[int] = set()
         self.is_answer_told: set[int] = set()
+        self.told_changes: set[tuple[int, int]] = set()  # reads and the changes after them
+        self.other: dict[tuple[str, int], Event] = {}  # by thread and its own number the steps of a run that passes
         self.told_holds: set[tuple[str, int]] = set()  # threads and the steps since which they hold something
 
     def tell(self, sentence: str) -> None:
         if sentence not in self.told:
             self.told.append(sentence)
+
+    def beside(self, passing: Json | None) -> None:
+        """Keeps the steps of the run beside it, which passes."""
+        own: dict[str, int] = {}
+        for step in passing["run"]["steps"] if passing else ():
+            own[step["thread"]] = own.get(step["thread"], 0) + 1
+            ask = tuple(step["ask"].split())
+            self.other[step["thread"], own[step["thread"]]] = Event(step["thread"], step["line"], ask,
+                                                                   int(step["answer"]))
+
+    def answer_beside(self, number: int) -> int | None:
+        """What the same step of the thread was answered in the run that passes, where that is something else."""
+        event = self.events[number - 1]
+        own = sum(it.thread == event.thread for it in self.events[:number])
+        other = self.other.get((event.thread, own))
+        is_same = other and other.line == event.line and other.ask == tuple(map(str, event.ask))
+        return other.answer if other and is_same and other.answer != event.answer else None
+
+    def of_difference(self, threads: list[str]) -> None:
+        """First what these threads were answered otherwise than in the run that passes, at last."""
+        for number in range(len(self.events), 0, -1):
+            event = self.events[number - 1]
+            beside = self.answer_beside(number) if event.thread in threads and event.ask[0] != "check" else None
+            if beside is not None:
+                used = [origin for _, origin in self.seen.registers.get(len(self.events), {}).values()]
+                if all(origin is None or origin.steps != {number} for origin in used):  # these come first anyway
+                    self.tell_answer(number)
+                return
+
+    def of_branches(self, thread: str) -> None:
+        """The tests by which the thread came there, the nearest first: which answers they used, and who wrote that."""
+        lines: set[int] = set()
+        own_last = max((number for number, it in enumerate(self.events, 1) if it.thread == thread), default=0)
+        names = self.script.threads[thread].names if thread in self.script.threads else {}
+        for test in reversed(self.seen.tests.get(thread, [])):
+            steps = sorted(test.steps - self.is_answer_told)
+            if test.line in lines or not steps:
+                continue
+            lines.add(test.line)
+            used = listed([f"{names.get(name, name)} = {value}" for name, value in test.registers.items()])
+            self.is_answer_told.update(steps)
+            self.tell(f"line {test.line} tested {used}: {'; '.join(self.answer(it) for it in steps[-2:])}")
+            if own_last > steps[-1]:
+                self.of_sources(steps[-2:], own_last)
 
     def line(self, number: int) -> str:
         step = self.run["steps"][number - 1]
@@ -83,10 +131,12 @@ class Story:
         """What the step was answered, and who had written that."""
         event = self.events[number - 1]
         word, *names = event.ask
+        beside = self.answer_beside(number)
+        whence = self.writer(number) + ("" if beside is None else f"; in the passing run it was {beside}")
         if word == "read":
-            return f"{event.thread} read {names[0]} = {event.answer} {self.at(number)}{self.writer(number)}"
+            return f"{event.thread} read {names[0]} = {event.answer} {self.at(number)}{whence}"
         asked = " ".join(map(str, event.ask))
-        return f"{event.thread}'s {asked} gave {event.answer} {self.at(number)}{self.writer(number)}"
+        return f"{event.thread}'s {asked} gave {event.answer} {self.at(number)}{whence}"
 
     def writer(self, number: int) -> str:
         if number not in self.seen.written:
@@ -113,7 +163,8 @@ class Story:
 
     def of_staleness(self, step: int, used: int) -> None:
         change = self.seen.change_after(step, used)
-        if change:
+        if change and (step, change) not in self.told_changes:
+            self.told_changes.add((step, change))
             event, other = self.events[step - 1], self.events[change - 1]
             self.tell(f"between {event.thread}'s step {step} and step {used} ({self.line(used)}), {other.thread} "
                       f"changed {event.ask[1]} {self.at(change)}")
@@ -124,7 +175,8 @@ class Story:
         for var, step in sorted(self.seen.reads.get(thread, {}).items(), key=lambda it: -it[1])[:4]:
             change = self.seen.change_after(step, end)
             self.tell_answer(step)
-            if change:
+            if change and (step, change) not in self.told_changes:
+                self.told_changes.add((step, change))
                 other = self.events[change - 1]
                 self.tell(f"after {thread}'s step {step}, {other.thread} changed {var} {self.at(change)}")
 
@@ -254,9 +306,12 @@ class Story:
             self.tell(f"{event.thread} took the step {' '.join(map(str, event.ask))} {self.at(number)}")
 
 
-def sentences_of(script: Script, run: Json, events: list[Event], races: list[Json]) -> list[str]:
-    """The sentences on the run of a script."""
-    return told_by(Story(script, run, events, watched(script, events)), races)
+def sentences_of(script: Script, run: Json, events: list[Event], races: list[Json],
+                 passing: Json | None = None) -> list[str]:
+    """The sentences on the run of a script, beside one that passes."""
+    story = Story(script, run, events, watched(script, events))
+    story.beside(passing)
+    return told_by(story, races)
 
 
 def sentences_of_deal(script: Script, run: Json, events: list[Event], races: list[Json]) -> list[str]:
@@ -269,7 +324,9 @@ def told_by(story: Story, races: list[Json]) -> list[str]:
     run, events = story.run, story.events
     kind, *rest = run["verdict"].split()
     if kind in ("failed", "fault") and events:
+        story.of_difference(rest[:1])
         story.of_registers(len(events))
+        story.of_branches(rest[0])
         story.of_entry(rest[0])
         story.of_reads(rest[0])
     elif kind == "misuse":
@@ -280,6 +337,7 @@ def told_by(story: Story, races: list[Json]) -> list[str]:
             story.of_wait(core)
         for core in run["core"]:
             story.of_holds(core["thread"])
+            story.of_branches(core["thread"])
             story.of_reads(core["thread"])
     elif kind == "cut":
         of_loop(story)
@@ -287,11 +345,24 @@ def told_by(story: Story, races: list[Json]) -> list[str]:
         one, other = story.at(race["first"]), story.at(race["second"])
         first, second = events[race["first"] - 1].thread, events[race["second"] - 1].thread
         story.tell(f"a data race on {race['var']}: {first} {one} and {second} {other}, and nothing orders them")
-    return story.told
+    return story.told[:MOST_SENTENCES]
+
+
+def equal_at_end(events: list[Event]) -> int:
+    """How many steps at the end of a run are one and the same."""
+    return sum(1 for _ in itertools.takewhile(lambda it: it == events[-1], reversed(events)))
 
 
 def of_loop(story: Story) -> None:
-    """A run that was cut: the lines of its last steps."""
+    """A run that was cut: what a thread looked at again and again, or else the lines of its last steps."""
+    looks = equal_at_end(story.events)
+    if looks > MOST_LOOKS:
+        event, first = story.events[-1], len(story.events) - looks + 1
+        words = " ".join(map(str, event.ask))
+        what = f"looked at {event.ask[1]}" if event.ask[0] in ("read", "cas") else f"made the step {words}"
+        story.tell(f"{event.thread} {what} {looks:,} times from step {first} on ({story.line(first)}), and nobody else "
+                   "went who could change it")
+        return
     last = [(event.thread, event.line) for event in story.events[-100:]]
     for thread, line in sorted(set(last), key=lambda it: -last.count(it))[:4]:
         number = max(at for at, event in enumerate(story.events, 1) if (event.thread, event.line) == (thread, line))

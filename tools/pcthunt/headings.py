@@ -2,6 +2,7 @@
 
 from __future__ import annotations
 
+import re
 from dataclasses import dataclass, field
 
 from pcthunt.document import complete_run, deal_of, run_of, Texts
@@ -91,10 +92,20 @@ def keys_of(verdict: str, run: Json, places: Places) -> list[tuple[str, ...]]:
     kind, *rest = verdict.split()
     if kind == "stuck":
         cycles = cycles_in(run["core"])
+        names = {it["thread"] for it in run["core"]}
+        if not all(it["for"] in names for it in run["core"]):
+            return [(kind, *sorted({waiting(it["thread"], run, places) for it in run["core"]}))]
         return sorted((kind, *sorted(places.of(it["thread"], it["line"]) for it in cycle)) for cycle in cycles)
     if kind == "cut":
         return [(kind,)]
     return [(kind, places.of(rest[0], int(rest[1])), *rest[2:])]
+
+
+def waiting(thread: str, run: Json, places: Places) -> str:
+    """What a thread of that shape waits for: the kind of its statement and its object; objects that a number alone
+    tells apart are one."""
+    ask = next(it["ask"] for it in run["asking"] if it["thread"] == thread)
+    return f"{places.twin[thread]} {re.sub(r'_[0-9]+', '_', ask)}"
 
 
 def cycles_in(core: list[Json]) -> list[list[Json]]:

@@ -6,7 +6,8 @@ import os
 
 from pcthunt.certify import Certifier, Sought
 from pcthunt.document import complete_run, directive_of, first_part, locks_of, sentence_of
-from pcthunt.explain import sentences_of
+from pcthunt.expected import is_atomic
+from pcthunt.explain import equal_at_end, sentences_of
 from pcthunt.headings import Failure, Heading, Headings, failures_of
 from pcthunt.interruptions import INTERRUPTIONS
 from pcthunt.output import typed
@@ -22,6 +23,9 @@ from pcthunt.states import Json
 from pcthunt.timed import TimedSearch
 from pctmodel.directive import Directive, read_directive
 from pctmodel.script import Script
+
+
+ROWS_OF_A_SPIN = 3  # of equal steps at the end of a run that are shown
 
 
 def going_on(rounds: list[Round], settings: Settings) -> int:
@@ -77,7 +81,8 @@ class Hunt:
         best = heading.best()
         assert best.trace is not None
         events = best.trace.events
-        first = max(1, len(events) - MOST_ROWS + 1)
+        looks = equal_at_end(events) if heading.kind() == "cut" else 0
+        first = max(1, len(events) - (ROWS_OF_A_SPIN if looks >= MOST_ROWS else MOST_ROWS) + 1)
         picture = drawn(self.form(best).script, best.trace, lines_of(self.data), first, len(events))
         case = Case(heading, sentence_of(best.run), [], picture, [], locks_of(self.script, events))
         case.again = self.again(best)
@@ -88,7 +93,8 @@ class Hunt:
                         explain(case)
             except KeyboardInterrupt:
                 self.is_interrupted = True
-        case.told = sentences_of(self.form(best).script, best.run, events, case.races)
+        races = [it for it in case.races if not is_atomic(it["var"], self.text)]
+        case.told = sentences_of(self.form(best).script, best.run, events, races, case.passing)
         return case
 
     def form(self, failure: Failure) -> Form:

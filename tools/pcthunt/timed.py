@@ -21,44 +21,53 @@ class TimedSearch(Search):
     """The rounds of a hunt that ends by its time, or two seconds after the first failure."""
 
     rate = FIRST_RATE
-    form_end = math.inf
     has_failed = False
 
-    def run_form(self, number: int) -> None:
-        left = self.progress.seconds_left()
-        assert left is not None
-        self.form_end = time.monotonic() + left / (len(self.source.forms) - number)
+    def run(self) -> list[Round]:
+        """Depth by depth the rounds of all plain scripts of the source, and then draws of those that weren't swept."""
         drawn: list[Round] = []
         try:
             for depth in range(1, self.settings.depth + 1):
-                round_ = self.begin(depth, number)
-                if depth > 1 and self.is_over():
+                drawn += self.rounds_of_depth(depth)
+                if self.is_over() or self.is_enough():
                     break
-                self.rounds.append(round_)
-                if self.fits(round_):
-                    self.sweep_measured(round_)
-                elif depth == 1:
-                    self.draw(round_, AT_DEPTH_1)
-                else:
-                    drawn.append(round_)
             self.draw_in_turns(drawn)
         except KeyboardInterrupt:
             self.why_ended = "interrupted"
-        self.rounds = [it for it in self.rounds if it.done() or it.depth == 1]
         self.note_end(drawn)
         self.progress.clear()
+        self.rounds = [it for it in self.rounds if it.done()] or self.rounds[:1]
+        for number, round_ in enumerate(self.rounds):
+            round_.number = number
+        return self.rounds
 
-    def begin(self, depth: int, number: int) -> Round:
-        own = [it.longest for it in self.rounds if it.form == number]
+    def rounds_of_depth(self, depth: int) -> list[Round]:
+        """Sweeps the depth of each plain script, and answers the rounds that would take too long."""
+        drawn: list[Round] = []
+        for form in range(len(self.source.forms)):
+            round_ = self.begin(depth, form)
+            self.rounds.append(round_)
+            if self.fits(round_):
+                self.sweep_measured(round_)
+            elif depth == 1:
+                self.draw(round_, AT_DEPTH_1)
+            else:
+                drawn.append(round_)
+            if self.is_over():
+                break
+        return drawn
+
+    def begin(self, depth: int, form: int) -> Round:
+        own = [it.longest for it in self.rounds if it.form == form]
         steps = max([1, *own]) if depth > 1 else 0
         choices = math.factorial(self.threads) * max(steps, 1) ** (depth - 1)
-        return Round(len(self.rounds), depth, self.settings.first, choices, self.settings.limit, steps, form=number,
+        return Round(len(self.rounds), depth, self.settings.first, choices, self.settings.limit, steps, form=form,
                      choices=choices)
 
     def left(self) -> float:
         left = self.progress.seconds_left()
         assert left is not None
-        return min(left, self.form_end - time.monotonic())
+        return left
 
     def is_over(self) -> bool:
         return self.why_ended is not None or self.left() <= 0
@@ -67,11 +76,12 @@ class TimedSearch(Search):
         return self.is_over()
 
     def fits(self, round_: Round) -> bool:
-        most = self.rate * self.left() * SHARE / max(round_.steps, 1)
+        most = self.rate * self.left() * SHARE / max(round_.steps, 1) / len(self.source.forms)
         return self.program.has_sweep() and round_.choices <= min(MOST_SWEPT, most)
 
     def sweep_measured(self, round_: Round) -> None:
         begun = time.monotonic()
+        self.parts.script = self.source.forms[round_.form].path
         self.sweep(round_)
         seconds = time.monotonic() - begun
         if round_.sweep is not None and round_.wanted >= LEAST_MEASURED:
@@ -80,9 +90,9 @@ class TimedSearch(Search):
 
     def draw_in_turns(self, rounds: list[Round]) -> None:
         many = FIRST_TURN
-        while rounds and not self.is_over():
+        while rounds and not self.is_over() and not self.is_enough():
             for round_ in rounds:
-                if not self.is_over():
+                if not self.is_over() and not self.is_enough():
                     self.draw(round_, many)
             many = min(2 * many, MOST_OF_A_TURN)
 
@@ -91,7 +101,13 @@ class TimedSearch(Search):
         kept."""
         first = (round_.first + round_.done()) % SEEDS
         turn = Round(round_.number, round_.depth, first, many, round_.limit, round_.steps)
-        self.campaign(turn)
+        self.parts.script = self.source.forms[round_.form].path
+        try:
+            self.campaign(turn)
+        finally:
+            self.keep(round_, turn)
+
+    def keep(self, round_: Round, turn: Round) -> None:
         round_.steps = round_.steps or turn.steps
         round_.longest = max(round_.longest, turn.longest)
         failing = [row for row in turn.rows if row.verdict != "passed"]

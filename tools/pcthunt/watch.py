@@ -19,6 +19,15 @@ class Origin:
     steps: frozenset[int]
 
 
+@dataclass(frozen=True)
+class Test:
+    """A test of an `if` or `while`: its line, the registers that it used, and the steps whose answers these are."""
+
+    line: int
+    registers: dict[str, int]
+    steps: frozenset[int]
+
+
 def registers_in(expression: Any) -> set[str]:
     if isinstance(expression, str):
         return {expression}
@@ -33,7 +42,7 @@ class WatchedBody(Body):
     def __init__(self, thread: Thread, is_held: bool) -> None:
         self.origins: dict[str, Origin] = {}
         self.number = 0  # of the step that is taken
-        self.decisions: set[int] = set()  # steps whose answers its conditions have used since its last step
+        self.tests: list[Test] = []  # of `if` and `while`, in order
         super().__init__(thread, is_held)
 
     def sources(self, values: list[Any]) -> frozenset[int]:
@@ -43,11 +52,13 @@ class WatchedBody(Body):
 
     def move(self, head: Any) -> None:
         sources = self.sources(head.values)
+        names = {name for value in head.values for name in registers_in(value)}
+        used = {name: self.registers[name] for name in sorted(names, key=lambda name: int(name[1:]))}
         super().move(head)
         if head.word == "set":
             self.origins[head.register] = Origin(head.line, sources)
         else:
-            self.decisions |= sources
+            self.tests.append(Test(head.line, used, sources))
 
     def answer(self, value: int) -> None:
         head = self.rest[0] if self.rest else None
@@ -67,6 +78,7 @@ class Watched:
     written: dict[int, int | None] = field(default_factory=dict)  # for a read, the step that wrote what it read
     changes: dict[str, list[int]] = field(default_factory=dict)  # by variable the steps that changed it
     reads: dict[str, dict[str, int]] = field(default_factory=dict)  # by thread and variable the last read
+    tests: dict[str, list[Test]] = field(default_factory=dict)  # by thread those before the run's last step
     world: World | None = None
 
     def change_after(self, step: int, before: int) -> int | None:
@@ -99,6 +111,9 @@ def watched(script: Script, events: list[Event]) -> Watched:
     found = Watched(events, world=world)
     for number, event in enumerate(events, 1):
         body = bodies[event.thread]
+        found.tests = {name: it.tests for name, it in bodies.items()}
+        if number == len(events):  # behind it are those of statements that the run doesn't come to
+            found.tests[event.thread] = list(body.tests)
         note_use(found, number, body)
         body.number = number
         note_event(found, number, event)

@@ -59,10 +59,10 @@ class Texts {
     return this.lines.get(file);
   }
 
-  at({file, line}) {
+  at({file, line, near}) {
     const text = this.linesOf(file)[line - 1] ?? "";
     const isScript = /^\s*(script|#)/.test(this.texts.get(file) ?? "");
-    return cutLine((isScript ? text.split("#")[0] : text).trim());
+    return (near ? "after " : "") + cutLine((isScript ? text.split("#")[0] : text).trim());
   }
 }
 
