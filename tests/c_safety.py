@@ -108,11 +108,14 @@ def scribble_checks(builder: Builder) -> Checks:
 
 def process_checks(builder: Builder) -> Checks:
     """A run that forks; and a replay under a debugger, which is made in the process that it has."""
-    refused = "pct: forks.c:10 can't be a step: it stands in a process that a thread of the run has forked\n"
+    refused = "pct: forks.c:13 can't be a step: it stands in a process that a thread of the run has forked\n"
     told = builder.run(builder.build("faults/forks.c", "forks", "-DSTEPS=1"), "--seeds", "9")
     yield "fork: with a step", told == (1, "", refused)
-    told = builder.run(builder.build("faults/forks.c", "forks", "-DSTEPS=0"), "--seeds", "9")
-    yield "fork: without one", told[0] == 0 and "passed in 27 seeds" in told[1]
+    program = builder.build("faults/forks.c", "forks", "-DSTEPS=0")
+    told = builder.run(program, "--seeds", "9", "--traces", "forks.traces")
+    with open(os.path.join(builder.room, "forks.traces"), encoding="utf-8") as file:
+        traces = file.read()
+    yield "fork: without one", told[0] == 0 and "passed in 27 seeds" in told[1] and " read cell = 1" in traces
     if shutil.which("gdb"):
         program = builder.build("rules/names.cpp", "debugged")
         builder.run(program, "--depth", "1", "--trace", "debugged.trace")

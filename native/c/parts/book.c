@@ -77,7 +77,7 @@ static uint32_t new_number(PctKind kind, int64_t first, const char *called, PctP
 }
 
 static bool is_of_run(const PctObject *object) {
-    return child.runs && object->id >> 32 == shared->stamp;
+    return child.runs && !child.is_forked && object->id >> 32 == shared->stamp;
 }
 
 static uint32_t number_of(PctKind kind, PctObject *object, PctPlace place) {
@@ -114,5 +114,5 @@ static void forget(const volatile void *at, size_t bytes) {
 }
 
 void pct_forget(const volatile void *at, size_t bytes) {
-    if (child.runs) forget(at, bytes);
+    if (child.runs && !child.is_forked) forget(at, bytes);
 }

@@ -19,8 +19,11 @@ static void forget_freed(const volatile void *at, size_t bytes) {
     forget(at, bytes);
 }
 
-/* Only who has the baton may look; the layer's own blocks have no variables. */
-static bool is_in_run(void) { return own_seat && child.runs && run->many[PCT_VARIABLES]; }
+/* Only who has the baton may look, and no process that it has forked; the layer's own blocks have
+   no variables. */
+static bool is_in_run(void) {
+    return own_seat && child.runs && !child.is_forked && run->many[PCT_VARIABLES];
+}
 
 #pragma weak dlsym
 

@@ -4,6 +4,7 @@
    one, since the thread sanitizer takes leave of a thread in the last. */
 static void end_thread(void *rounds) {
     uint32_t me = own_seat - 1;
+    if (child.is_forked) return;
     if ((uintptr_t)rounds > 1) {
         pthread_setspecific(at_end, (void *)((uintptr_t)rounds - 1));
         return;
