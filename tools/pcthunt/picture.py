@@ -68,15 +68,29 @@ def waiting_in(world: World) -> set[str]:
     return {thread for waiting in world.store.waiting.values() for thread in waiting}
 
 
-def next_step(world: World, event: Event, number: int, lowered: int) -> Step:
-    """Makes the step in the world, and gives what it changed."""
-    blocked, ended, waiting = blocked_in(world), ended_in(world), waiting_in(world)
+@dataclass
+class Standing:
+    """Between two steps who can't go on and what they ask, who has ended, and who waits for a signal."""
+
+    blocked: dict[str, str]
+    ended: set[str]
+    waiting: set[str]
+
+    @classmethod
+    def of(cls, world: World) -> Standing:
+        return cls(blocked_in(world), ended_in(world), waiting_in(world))
+
+
+def next_step(world: World, event: Event, number: int, lowered: int, before: Standing) -> tuple[Step, Standing]:
+    """Makes the step in the world, and gives what it changed, and how all stand then."""
     world.step(event.thread)
-    still, others = blocked_in(world), waiting_in(world)
-    released = [name for name in blocked if name not in still and name != event.thread]
-    woken = [name for name in still if name in waiting - others]
+    after = Standing.of(world)
+    released = [name for name in before.blocked if name not in after.blocked and name != event.thread]
+    signalled = before.waiting - after.waiting
+    woken = [name for name in after.blocked if name in signalled]
     label = f"{' '.join(map(str, event.ask))} = {event.answer}"
-    return Step(number, event.thread, event.line, label, lowered, blocked, ended, woken, released)
+    step = Step(number, event.thread, event.line, label, lowered, before.blocked, before.ended, woken, released)
+    return step, after
 
 
 def picture_of(script: Script, trace: Trace, text: list[str], first: int = 1, last: int | None = None) -> Picture:
@@ -90,10 +104,12 @@ def picture_of(script: Script, trace: Trace, text: list[str], first: int = 1, la
 def drawn(script: Script, trace: Trace, text: list[str], first: int, last: int) -> Picture:
     """The picture of a trace that is a run of the script."""
     world, steps = World(script), []
+    standing: Standing | None = None
     lowered = {point: value for value, point in enumerate(trace.points, 1)}  # of equal points the last one counts
     for number, event in enumerate(trace.events, 1):
         if first <= number <= last:
-            steps.append(next_step(world, event, number, lowered.get(number, 0)))
+            step, standing = next_step(world, event, number, lowered.get(number, 0), standing or Standing.of(world))
+            steps.append(step)
         else:
             world.step(event.thread)
     kind, *rest = trace.verdict.split()
