@@ -41,7 +41,8 @@ BOUNDED, SINGLE, UNBOUNDED = "src/bounded.rs", "src/single.rs", "src/unbounded.r
 QUEUE = [
     Bug("a slot's stamp is stored relaxed by a push", BOUNDED, "slot.stamp.store(tail + 1, Ordering::Release)",
         "slot.stamp.store(tail + 1, Ordering::Relaxed)"),
-    Bug("a slot's stamp is stored relaxed by a pop", BOUNDED, ".store(head.wrapping_add(self.one_lap), Ordering::Release)",
+    Bug("a slot's stamp is stored relaxed by a pop", BOUNDED,
+        ".store(head.wrapping_add(self.one_lap), Ordering::Release)",
         ".store(head.wrapping_add(self.one_lap), Ordering::Relaxed)"),
     Bug("a slot's stamp is loaded relaxed", BOUNDED, "slot.stamp.load(Ordering::Acquire)",
         "slot.stamp.load(Ordering::Relaxed)", nth=1),
@@ -106,7 +107,8 @@ TOKIO = [
     Bug("semaphore: a waiter takes the lock after the count was changed", SEMAPHORE,
         "lock = Some(self.waiters.lock());", "lock = None;", tests=["sync::tests::loom_semaphore_batch"]),
     Bug("notify: a notification that comes first is lost", NOTIFY, "set_state(curr, NOTIFIED), SeqCst, SeqCst);\n\n"
-        "                match res {\n                    Ok(_) => return None", "set_state(curr, EMPTY), SeqCst, SeqCst);\n\n"
+        "                match res {\n                    Ok(_) => return None",
+        "set_state(curr, EMPTY), SeqCst, SeqCst);\n\n"
         "                match res {\n                    Ok(_) => return None", tests=["sync::tests::loom_notify"]),
     Bug("watch: a new value doesn't raise the version", WATCH, "self.shared.state.increment_version();", "",
         tests=["sync::tests::loom_watch", "sync::watch::tests"]),

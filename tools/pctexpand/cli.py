@@ -6,7 +6,8 @@ import os
 import sys
 
 from pctexpand.expansion import Expansion, Unexpanded, expand
-from pcthunt.output import BAD_SCRIPT, DONE, USAGE, WRITE_FAULT, Refused, put, read, shown
+from pcthunt.inputs import read
+from pcthunt.output import BAD_SCRIPT, DONE, USAGE, WRITE_FAULT, Refused, put, shown
 
 USAGE_LINE = "usage: pct-expand [--choice N] [--lines] FILE"
 HELP = f"""{USAGE_LINE}
@@ -20,7 +21,7 @@ these is printed as it is. docs/modelling.md has the rules.
   --help      writes this
 
 The status is 0, 2 for words that aren't taken, 3 for a script that can't be expanded, 6 and 7 for files and output that
-can't be read or written.
+can't be read or written, 8 where there is no memory left, 9 where the tool has an error of its own.
 """
 MOST_SCRIPT = 1048577
 
