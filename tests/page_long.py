@@ -25,7 +25,7 @@ def long_document(steps, lines=5):
             "deal": deal, "names": {}, "headings": [{"run": run, "again": [], "kind": "cut", "sentence": "It is long"}]}
 
 
-MOST_LONGEST = 8  # seconds of processor time of all of the browser's processes: its start of a page takes a part
+MOST_LONGEST = 3  # seconds of processor time of all of the browser's processes
 MOVES = """
 for (let count = 0; count < 100; count += 1) {
   document.dispatchEvent(new KeyboardEvent("keydown", { key: "j", bubbles: true }));
