@@ -103,7 +103,7 @@ TOKIO = [
     Bug("oneshot: a value is sent relaxed", ONESHOT, "Ordering::AcqRel,\n                Ordering::Acquire",
         "Ordering::Relaxed,\n                Ordering::Relaxed", tests=["sync::tests::loom_oneshot"]),
     Bug("semaphore: permits of a dropped waiter are lost", SEMAPHORE, "if acquired_permits > 0 {",
-        "if acquired_permits > usize::MAX - 1 {", tests=["sync::tests::loom_semaphore_batch"]),
+        "if acquired_permits > usize::MAX - 1 {", is_found=False, tests=["sync::tests::loom_semaphore_batch"]),
     Bug("semaphore: a waiter takes the lock after the count was changed", SEMAPHORE,
         "lock = Some(self.waiters.lock());", "lock = None;", tests=["sync::tests::loom_semaphore_batch"]),
     Bug("notify: a notification that comes first is lost", NOTIFY, "set_state(curr, NOTIFIED), SeqCst, SeqCst);\n\n"

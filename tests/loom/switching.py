@@ -43,8 +43,8 @@ def checks(room: pathlib.Path, loom: pathlib.Path, cargo: Cargo) -> Iterator[tup
         (user / "src").mkdir(parents=True)
         (user / "src" / "lib.rs").write_text(f"#![cfg(test)]\nuse std::sync::atomic::Ordering::SeqCst;{TEST}",
                                              encoding="utf-8")
-        package = '[package]\nname = "user"\nversion = "0.1.0"\nedition = "2021"\n[workspace]\n'
-        manifest = f"{package}[dependencies]\n{lines}"
+        manifest = ('[package]\nname = "user"\nversion = "0.1.0"\nedition = "2021"\n[workspace]\n'
+                    f'[dependencies]\n{lines}')
         (user / "Cargo.toml").write_text(manifest.replace("LOOM", str(loom)), encoding="utf-8")
         said = cargo(user, ["test", *(word.replace("LOOM", str(loom)) for word in words)])
         if SAID not in said:
