@@ -2,12 +2,15 @@
 
 from __future__ import annotations
 
+import re
+
 from pcthunt.forms import Scope
-from pcthunt.mends import Mend
+from pcthunt.mends import Mend, mended_text
 from pcthunt.output import shown
+from pcthunt.refused_habits import habit
 from pcthunt.refused_lines import bad_header, bad_statement, bad_token
 from pcthunt.refused_names import no_end, no_thread, number_range, stray_end, too_many, twice_named, unknown_name
-from pctmodel.script import Faulty
+from pctmodel.script import Faulty, parse
 
 
 def script_refusal(path: str, data: bytes, fault: Faulty) -> str:
@@ -31,7 +34,26 @@ def mend_of(data: bytes, fault: Faulty) -> Mend:
     teller = {"BadHeader": bad_header, "BadToken": bad_token, "BadStatement": bad_statement,
               "UnknownName": unknown_name, "TwiceNamed": twice_named, "NumberRange": number_range, "NoEnd": no_end,
               "StrayEnd": stray_end, "NoThread": no_thread, "TooMany": too_many}.get(fault.kind)
-    return teller(scope, line, fault.line, lines) if teller else of_bytes(fault.kind, data, fault.line)
+    if fault.kind in ("BadToken", "BadStatement"):
+        mend = habit(scope, line)
+        if mend:
+            return that_parses(mend, text, fault)
+    return that_parses(teller(scope, line, fault.line, lines) if teller else of_bytes(fault.kind, data, fault.line),
+                       text, fault)
+
+
+def that_parses(mend: Mend, text: str, fault: Faulty) -> Mend:
+    """The mend, without its proposal where that has a fault itself."""
+    mended = mended_text(text, fault.line, mend)
+    if mended is None:
+        return mend
+    last = fault.line + max(len(mend.lines or ()), 1) - 1
+    try:
+        parse(mended.encode())
+    except Faulty as other:
+        if other.line <= last and other.kind not in ("NoEnd", "NoThread"):
+            return Mend(mend.word, re.sub(r"(; put `[^`]*` before it)?[;:,] (and )?write `.*$", "", mend.wanted))
+    return mend
 
 
 def of_bytes(kind: str, data: bytes, number: int) -> Mend:
