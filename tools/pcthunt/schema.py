@@ -106,12 +106,12 @@ STATE = Form({}, {
     "threads": by_name(THREAD_STATE)})
 STEP = Form({"thread": NAME, **PLACE, "ask": ASK, "answer": DECIMAL},
             {"own": LINE, "lowered": COUNT, "why": TEXT, "over": many(NAME), "woken": many(NAME),
-             "released": many(NAME), "changes": STATE})
+             "released": many(NAME), "changes": STATE, "near": FLAG})
 SEED = Form({"seed": DECIMAL, "depth": COUNT, "steps": COUNT}, {})
 CORE = Form({"thread": NAME, "waits": TEXT, "for": maybe(NAME), "since": maybe(LINE)}, PLACE)
 RUN = Form({"seed": maybe(SEED), "order": many(NAME), "points": many(LINE), "limit": COUNT, "steps": many(STEP),
             "asking": many(Form({"thread": NAME, **PLACE, "ask": ASK}, {})), "ended": many(NAME), "verdict": SAID},
-           {"start": STATE, "core": many(CORE)})
+           {"start": STATE, "core": many(CORE), "died": TEXT})
 DIRECTIVE = Form({"low": NAME, "moments": many(Form({"thread": NAME, "number": LINE, "step": maybe(LINE)}, {})),
                   "verdict": SAID},
                  {"threads": COUNT, "steps": COUNT, "depth": COUNT, "bound": DECIMAL, "tried": COUNT})
