@@ -145,6 +145,8 @@ def ends_well(tool: str, main: Callable[[], int]) -> int:
     except Refused as refused:
         say(f"{tool}: {refused.why}")
         return refused.status
+    except SystemExit as ended:  # argparse's own end, at --help and at words that aren't taken
+        return ended.code if isinstance(ended.code, int) else USAGE
     except KeyboardInterrupt as interrupted:
         status = int(interrupted.args[0]) if interrupted.args else INTERRUPTED
         say(f"{tool}: interrupted; the same words begin again")
