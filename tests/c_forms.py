@@ -60,7 +60,7 @@ def places(builder: Builder) -> Checks:
         yield f"{builder.name}: places {how}: sites", sites.endswith(f"{names}4096 at 3 {header}\n{near}")
         whole = builder.run(sys.executable, DOCUMENT, "places.json")[1]
         steps = json.loads(whole)["headings"][0]["run"]["steps"]
-        yield f"{builder.name}: places {how}: the page", [step["text"].startswith("after ") for step in steps] == \
+        yield f"{builder.name}: places {how}: the page", [step.get("near", False) for step in steps] == \
             [place.startswith("after") for place in wanted]
     said = builder.made("faults/elsewhere.cpp", "--seeds", "9", "--lanes", "--trace", "elsewhere.trace")[1]
     verdict = "failed Main elsewhere.hpp:3\n"

@@ -13,7 +13,9 @@ fn main() {
                 hits.store(seen + 1, SeqCst);
             })
         });
-        page.map(|reader| reader.join().unwrap());
+        for reader in page {
+            reader.join().unwrap();
+        }
         assert_eq!(hits.load(SeqCst), 2);
     });
 }
