@@ -39,6 +39,12 @@ def stands(builder: Builder) -> Checks:
         yield "the layer with -include", "pct_test.c is compiled apart, without -include" in str(complaint)
 
 
+def isolated_statics(builder: Builder) -> Checks:
+    """Statics in functions whose constructors make steps, with a process for each run."""
+    status, said, wrong = builder.made("rules/statics.cpp", "--isolate", "--seeds", "50")
+    yield f"{builder.name}: statics.cpp --isolate", (status, wrong) == (0, "") and "passed in 150 seeds" in said
+
+
 def places(builder: Builder) -> Checks:
     """A step in a header, in an operator, in std's guard and in the test's file: in the text, in FILE.sites and in a
     replay; with debug information, and without, where it stands after a place."""
